@@ -1,0 +1,50 @@
+-- "Checks run in the order listed; the first that applies is given. Place is 0 unless named."
+use Prim.Native.Nat.{ℕ, zero, suc}
+use mathlib.Core.Bool.{Bool, not, _||_, cond}
+use mathlib.Core.List.{List, [], _∷_, _++_}
+use lib.Dec.{ltb, eqb}
+use Rattle.rules.specs.declared.Refusal.{Refusal}
+use Rattle.rules.specs.declared.Verdict.{Verdict}
+use Rattle.rules.specs.declared.Verdict.the-variants.{Accepted, Refused}
+
+-- A row of the table of refusals: its number, its place, and whether it is given.
+pub record Check : Type 0 where
+  pub number : ℕ
+  pub place : ℕ
+  pub applies : Bool
+
+abbrev pub check : ℕ → ℕ → Bool → Check
+check number place applies = record { number = number; place = place; applies = applies }
+
+abbrev pub refuse : ℕ → ℕ → Refusal
+refuse number place = record { number = number; place = place }
+
+unfoldable pub firstOf : List Check → Verdict
+firstOf [] = Accepted
+firstOf (c ∷ cs) = cond (c .applies) (Refused (refuse (c .number) (c .place))) (firstOf cs)
+
+-- The checks of `count` things in a row, from number `first` on: the lowest that applies comes first.
+unfoldable pub each : (ℕ → List Check) → ℕ → ℕ → List Check
+each checks zero first = []
+each checks (suc count) first = checks first ++ each checks count (suc first)
+
+-- The tests that the table names in words.
+abbrev pub differ : ℕ → ℕ → Bool
+differ x y = not (eqb x y)
+
+abbrev pub outside : ℕ → ℕ → ℕ → Bool
+outside low high x = ltb x low || ltb high x
+
+-- What stands beside a verdict: the value where it is accepted, and nothing where it is refused.
+abbrev pub beside : {A : Type 0} → Verdict → A → A → A
+beside Accepted value nothing = value
+beside (Refused r) value nothing = nothing
+
+-- Document 01's number and place of a verdict: 0 and 0 is accepted.
+abbrev pub numberOf : Verdict → ℕ
+numberOf Accepted = 0
+numberOf (Refused r) = r .number
+
+abbrev pub placeOf : Verdict → ℕ
+placeOf Accepted = 0
+placeOf (Refused r) = r .place

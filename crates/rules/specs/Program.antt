@@ -1,0 +1,77 @@
+-- The program `plan`: how it parts its input, and what it prints.
+use Prim.Native.Nat.{ℕ, zero, suc, _+_, _-_, _*_, _/_, _%_}
+use mathlib.Core.Bool.{Bool, _||_, cond}
+use mathlib.Core.List.{List, [], _∷_, _++_}
+use lib.ListN.{length, getD, take, drop}
+use lib.Dec.{ltb}
+use Rattle.rules.specs.Numbers.{four}
+use Rattle.rules.specs.Network.{nodeCount, from, to}
+use Rattle.rules.specs.declared.Planned.{Planned}
+use Rattle.rules.specs.declared.Planned.the-variants.{Plan as Found, Refused as NotPlanned}
+
+-- "It takes the first 16,424 bytes at most; the network is as long as it states, or the whole input if that is under 5 bytes or shorter than stated; the rest is the request."
+abbrev pub taken : List ℕ → List ℕ
+taken input = take 16424 input
+
+abbrev pub networkSize : List ℕ → ℕ
+networkSize bytes = cond (ltb (length bytes) 5 || ltb (length bytes) (four bytes 1)) (length bytes) (four bytes 1)
+
+abbrev pub networkPart : List ℕ → List ℕ
+networkPart input = take (networkSize (taken input)) (taken input)
+
+abbrev pub requestPart : List ℕ → List ℕ
+requestPart input = drop (networkSize (taken input)) (taken input)
+
+-- "It has 2,048 table places and full room otherwise."
+abbrev pub programDistances : ℕ
+programDistances = 7 * 512
+
+abbrev pub programTable : ℕ
+programTable = 2048
+
+abbrev pub programSteps : ℕ
+programSteps = 4095
+
+-- "Numbers are decimal": the digits of a number below 10 ^ (places + 1), with no zero in front
+unfoldable pub digits : ℕ → ℕ → List ℕ
+digits zero x = (48 + x % 10) ∷ []
+digits (suc places) x = cond (ltb x 10) ((48 + x) ∷ []) (digits places (x / 10) ++ (48 + x % 10) ∷ [])
+
+abbrev pub decimal : ℕ → List ℕ
+decimal x = digits 19 x
+
+-- "fields are parted by one space, and each line ends in a line feed"
+unfoldable pub fields : List ℕ → List ℕ
+fields [] = 10 ∷ []
+fields (x ∷ xs) = 32 ∷ decimal x ++ fields xs
+
+abbrev pub line : List ℕ → List ℕ → List ℕ
+line word numbers = word ++ fields numbers
+
+-- the words ok, drive, meet and refused
+abbrev pub okWord : List ℕ
+okWord = 111 ∷ 107 ∷ []
+
+abbrev pub driveWord : List ℕ
+driveWord = 100 ∷ 114 ∷ 105 ∷ 118 ∷ 101 ∷ []
+
+abbrev pub meetWord : List ℕ
+meetWord = 109 ∷ 101 ∷ 101 ∷ 116 ∷ []
+
+abbrev pub refusedWord : List ℕ
+refusedWord = 114 ∷ 101 ∷ 102 ∷ 117 ∷ 115 ∷ 101 ∷ 100 ∷ []
+
+-- "`drive` link from to; `meet` rider node walking-distance", from the node v on
+unfoldable pub stepLines : List ℕ → List ℕ → ℕ → List ℕ → List ℕ
+stepLines network distances v [] = []
+stepLines network distances v (step ∷ steps) =
+    cond (ltb step 8)
+    (line meetWord (step ∷ v ∷ getD distances (step * nodeCount network + v) 0 ∷ []) ++ stepLines network distances v steps)
+    (line driveWord ((step - 8) ∷ from network (step - 8) ∷ to network (step - 8) ∷ [])
+    ++ stepLines network distances (to network (step - 8)) steps)
+
+-- "`ok` cost steps", then a line for each step. "A refusal prints `refused` number place."
+unfoldable pub printed : List ℕ → ℕ → Planned → List ℕ → List ℕ → List ℕ
+printed network source (Found cost count) distances steps =
+    line okWord (cost ∷ count ∷ []) ++ stepLines network distances source (take count steps)
+printed network source (NotPlanned r) distances steps = line refusedWord (r .number ∷ r .place ∷ [])

@@ -1,0 +1,107 @@
+-- The request record: "version byte 1; total length (2); source (2); target (2); bus weight (1); rider count l (1); then l riders: node (2), weight (1)."
+use Prim.Native.Nat.{ℕ, _+_, _*_}
+use mathlib.Core.Bool.{Bool, cond}
+use mathlib.Core.List.{List, [], _∷_, _++_, map}
+use lib.ListN.{length}
+use lib.Dec.{ltb, leb}
+use Rattle.rules.specs.Checks.{Check, check, firstOf, each, differ, outside, beside}
+use Rattle.rules.specs.Numbers.{byte, two}
+use Rattle.rules.specs.Network.{version, nodeCount, networkChecks}
+use Rattle.rules.specs.declared.Verdict.{Verdict}
+use Rattle.rules.specs.declared.Request.{Request}
+use Rattle.rules.specs.declared.RequestRead.{RequestRead}
+
+abbrev pub statedLength : List ℕ → ℕ
+statedLength s = two s 1
+
+abbrev pub source : List ℕ → ℕ
+source s = two s 3
+
+abbrev pub target : List ℕ → ℕ
+target s = two s 5
+
+abbrev pub busWeight : List ℕ → ℕ
+busWeight s = byte s 7
+
+abbrev pub riderCount : List ℕ → ℕ
+riderCount s = byte s 8
+
+abbrev pub riderStart : ℕ → ℕ
+riderStart j = 9 + 3 * j
+
+unfoldable pub riderNode : List ℕ → ℕ → ℕ
+riderNode s j = two s (riderStart j)
+
+unfoldable pub riderWeight : List ℕ → ℕ → ℕ
+riderWeight s j = byte s (riderStart j + 2)
+
+-- 16: a node of n or more (place: 0 source, 1 target, 2+j rider; lowest)
+abbrev pub nodeCheck : List ℕ → ℕ → ℕ → Check
+nodeCheck network place node = check 16 place (leb (nodeCount network) node)
+
+unfoldable pub nodeChecks : List ℕ → List ℕ → List Check
+nodeChecks network s =
+    nodeCheck network 0 (source s)
+    ∷ nodeCheck network 1 (target s)
+    ∷ each (λ j. nodeCheck network (2 + j) (riderNode s j) ∷ []) (riderCount s) 0
+
+-- 17: a weight outside 1 to 100 (place: 0 bus, 1+j rider; lowest)
+abbrev pub weightCheck : ℕ → ℕ → Check
+weightCheck place weight = check 17 place (outside 1 100 weight)
+
+unfoldable pub weightChecks : List ℕ → List Check
+weightChecks s =
+    weightCheck 0 (busWeight s) ∷ each (λ j. weightCheck (1 + j) (riderWeight s j) ∷ []) (riderCount s) 0
+
+-- 11, 12, 13: the same three for the request
+-- 14, 15: count above 7; length not 9+3l
+unfoldable pub requestChecks : List ℕ → List ℕ → List Check
+requestChecks network s =
+    check 11 0 (ltb (length s) 9)
+    ∷ check 12 0 (differ (version s) 1)
+    ∷ check 13 0 (differ (statedLength s) (length s))
+    ∷ check 14 0 (ltb 7 (riderCount s))
+    ∷ check 15 0 (differ (length s) (9 + 3 * riderCount s))
+    ∷ nodeChecks network s
+    ++ weightChecks s
+
+-- "The request reader is given the network record too, whose refusals come first."
+abbrev pub recordChecks : List ℕ → List ℕ → List Check
+recordChecks network s = networkChecks network ++ requestChecks network s
+
+unfoldable pub requestVerdict : List ℕ → List ℕ → Verdict
+requestVerdict network s = firstOf (recordChecks network s)
+
+-- "one value with its seven rider places; unused places are zero"
+unfoldable pub sevenPlaces : (ℕ → ℕ) → ℕ → List ℕ
+sevenPlaces value used = map (λ j. cond (ltb j used) (value j) 0) (0 ∷ 1 ∷ 2 ∷ 3 ∷ 4 ∷ 5 ∷ 6 ∷ [])
+
+unfoldable pub requestValue : List ℕ → Request
+requestValue s =
+    record {
+      source = source s;
+      target = target s;
+      weight = busWeight s;
+      count = riderCount s;
+      nodes = sevenPlaces (riderNode s) (riderCount s);
+      weights = sevenPlaces (riderWeight s) (riderCount s);
+    }
+
+unfoldable pub noRequest : Request
+noRequest =
+    record {
+      source = 0;
+      target = 0;
+      weight = 0;
+      count = 0;
+      nodes = sevenPlaces (λ j. 0) 0;
+      weights = sevenPlaces (λ j. 0) 0;
+    }
+
+-- "a refused request gives the value with every field zero beside its refusal"
+unfoldable pub requestOf : List ℕ → List ℕ → RequestRead
+requestOf network s =
+    record {
+      verdict = requestVerdict network s;
+      request = beside (requestVerdict network s) (requestValue s) noRequest;
+    }

@@ -1,0 +1,43 @@
+-- Links, walks and walking distances.
+use Prim.Native.Nat.{ℕ, _+_, _<_, _≤_, _^_, _-_}
+use mathlib.Core.Path.{_≡_}
+use mathlib.Core.Logic.{_⊎_}
+use mathlib.Core.List.{List, [], _∷_}
+use Rattle.rules.specs.Network.{linkCount, from, to, walk, closed}
+
+-- Link k is open to a use that it costs `cost k`, and leads from u to v at the cost w.
+pub record Leads (network : List ℕ) (cost : ℕ → ℕ) (k u v w : ℕ) : Type 0 where
+  pub exists : k < linkCount network
+  pub starts : from network k ≡ u
+  pub ends : to network k ≡ v
+  pub costs : cost k ≡ w
+  pub opened : w < closed
+
+-- The links, one behind the other, lead from u to v, and their costs add up to c: the first starts at u, each next starts where the last ended, the last ends at v. No link at all leads from a node to itself, at 0.
+pub data Way (Link : ℕ → ℕ → ℕ → ℕ → Type 0) (v : ℕ) : ℕ → List ℕ → ℕ → Type 0 where
+  arrived : {u c : ℕ} → u ≡ v → c ≡ 0 → Way Link v u [] c
+  along : {u c k : ℕ} {links : List ℕ} (x w rest : ℕ) → Link k u x w → Way Link v x links rest → c ≡ w + rest → Way Link v u (k ∷ links) c
+
+-- "A walk runs along links open to walkers, from `from` to `to`."
+abbrev pub Walkable : List ℕ → ℕ → ℕ → ℕ → ℕ → Type 0
+Walkable network = Leads network (walk network)
+
+abbrev pub Walk : List ℕ → ℕ → ℕ → List ℕ → ℕ → Type 0
+Walk network u v links sum = Way (Walkable network) v u links sum
+
+-- "The walking distance is the least sum of walk costs; 0 from a node to itself; none if no walk exists."
+pub record WalkingDistance (network : List ℕ) (u v d : ℕ) : Type 0 where
+  pub links : List ℕ
+  pub walked : Walk network u v links d
+  pub least : (other : List ℕ) (sum : ℕ) → Walk network u v other sum → d ≤ sum
+
+abbrev pub NoWalk : List ℕ → ℕ → ℕ → Type 0
+NoWalk network u v = (links : List ℕ) (sum : ℕ) → Walk network u v links sum → ⊥
+
+-- "4,294,967,295 is none"
+abbrev pub noDistance : ℕ
+noDistance = 2 ^ 32 - 1
+
+-- what a 32-bit place holds of the way from u to v
+abbrev pub HoldsDistance : List ℕ → ℕ → ℕ → ℕ → Type 0
+HoldsDistance network u v place = WalkingDistance network u v place ⊎ (NoWalk network u v × (place ≡ noDistance))

@@ -1,0 +1,48 @@
+// The types of document 01's values and answers. Their rules are the definitions in specs/.
+
+// A refusal: document 01's number, and the place it names (0 where it names none).
+pub struct Refusal {
+    pub number: u16,
+    pub place: usize,
+}
+
+// The answer of an entry that hands back no number of its own.
+pub enum Verdict {
+    Accepted,
+    Refused(Refusal),
+}
+
+// A network once read: n and m, both 0 beside a refusal.
+pub struct NetworkRead {
+    pub verdict: Verdict,
+    pub n: usize,
+    pub m: usize,
+}
+
+// A request with its seven rider places; unused places are zero.
+pub struct Request {
+    pub source: usize,
+    pub target: usize,
+    pub weight: u64,
+    pub count: usize,
+    pub nodes: [usize; 7],
+    pub weights: [u64; 7],
+}
+
+// A request once read: the value, with every field zero beside a refusal.
+pub struct RequestRead {
+    pub verdict: Verdict,
+    pub request: Request,
+}
+
+// The answer of pricing.
+pub enum Priced {
+    Price(u64),
+    Refused(Refusal),
+}
+
+// The answer of the search: a cost with its step count, or a refusal with its place.
+pub enum Planned {
+    Plan { cost: u64, steps: usize },
+    Refused(Refusal),
+}
