@@ -1,6 +1,6 @@
 -- The network record: "version byte 1; total length (4 bytes, the whole record); n (2); m (2); then m links of 8 bytes: from, to, drive, walk, 2 bytes each."
 use Prim.Native.Nat.{ℕ, _+_, _*_}
-use mathlib.Core.Bool.{Bool, _||_, _&&_, cond, true, false}
+use mathlib.Core.Bool.{Bool, _||_, cond}
 use mathlib.Core.Path.{_≡_}
 use mathlib.Core.List.{List, [], _∷_, _++_}
 use lib.ListN.{length, take, drop}
@@ -26,16 +26,16 @@ linkCount s = two s 7
 abbrev pub linkStart : ℕ → ℕ
 linkStart k = 9 + 8 * k
 
-unfoldable pub from : List ℕ → ℕ → ℕ
+abbrev pub from : List ℕ → ℕ → ℕ
 from s k = two s (linkStart k)
 
-unfoldable pub to : List ℕ → ℕ → ℕ
+abbrev pub to : List ℕ → ℕ → ℕ
 to s k = two s (linkStart k + 2)
 
-unfoldable pub drive : List ℕ → ℕ → ℕ
+abbrev pub drive : List ℕ → ℕ → ℕ
 drive s k = two s (linkStart k + 4)
 
-unfoldable pub walk : List ℕ → ℕ → ℕ
+abbrev pub walk : List ℕ → ℕ → ℕ
 walk s k = two s (linkStart k + 6)
 
 -- "A cost is 0 to 65,534; 65,535 means closed to that use."
@@ -71,7 +71,7 @@ networkOf s =
 
 -- "For a link number the reader hands back the link's eight bytes in the caller's own record, not a copy. A bad record or a number of m or more gives the empty part at the record's start."
 abbrev pub hasLink : List ℕ → ℕ → Bool
-hasLink s k = beside (networkVerdict s) (ltb k (linkCount s)) false
+hasLink s k = ltb k (networkOf s .m)
 
 -- the part of a whole that starts at `start` and has `size` elements: the same memory, and what it holds
 pub record Part (whole : RefT (List ℕ)) (start size : ℕ) (part : RefT (List ℕ)) : Type 0 where

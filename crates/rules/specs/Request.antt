@@ -29,21 +29,21 @@ riderCount s = byte s 8
 abbrev pub riderStart : ℕ → ℕ
 riderStart j = 9 + 3 * j
 
-unfoldable pub riderNode : List ℕ → ℕ → ℕ
+abbrev pub riderNode : List ℕ → ℕ → ℕ
 riderNode s j = two s (riderStart j)
 
-unfoldable pub riderWeight : List ℕ → ℕ → ℕ
+abbrev pub riderWeight : List ℕ → ℕ → ℕ
 riderWeight s j = byte s (riderStart j + 2)
 
 -- 16: a node of n or more (place: 0 source, 1 target, 2+j rider; lowest)
-abbrev pub nodeCheck : List ℕ → ℕ → ℕ → Check
-nodeCheck network place node = check 16 place (leb (nodeCount network) node)
+abbrev pub nodeCheck : ℕ → ℕ → ℕ → Check
+nodeCheck n place node = check 16 place (leb n node)
 
-unfoldable pub nodeChecks : List ℕ → List ℕ → List Check
-nodeChecks network s =
-    nodeCheck network 0 (source s)
-    ∷ nodeCheck network 1 (target s)
-    ∷ each (λ j. nodeCheck network (2 + j) (riderNode s j) ∷ []) (riderCount s) 0
+unfoldable pub nodeChecks : ℕ → List ℕ → List Check
+nodeChecks n s =
+    nodeCheck n 0 (source s)
+    ∷ nodeCheck n 1 (target s)
+    ∷ each (λ j. nodeCheck n (2 + j) (riderNode s j) ∷ []) (riderCount s) 0
 
 -- 17: a weight outside 1 to 100 (place: 0 bus, 1+j rider; lowest)
 abbrev pub weightCheck : ℕ → ℕ → Check
@@ -55,19 +55,19 @@ weightChecks s =
 
 -- 11, 12, 13: the same three for the request
 -- 14, 15: count above 7; length not 9+3l
-unfoldable pub requestChecks : List ℕ → List ℕ → List Check
-requestChecks network s =
+unfoldable pub requestChecks : ℕ → List ℕ → List Check
+requestChecks n s =
     check 11 0 (ltb (length s) 9)
     ∷ check 12 0 (differ (version s) 1)
     ∷ check 13 0 (differ (statedLength s) (length s))
     ∷ check 14 0 (ltb 7 (riderCount s))
     ∷ check 15 0 (differ (length s) (9 + 3 * riderCount s))
-    ∷ nodeChecks network s
+    ∷ nodeChecks n s
     ++ weightChecks s
 
 -- "The request reader is given the network record too, whose refusals come first."
 abbrev pub recordChecks : List ℕ → List ℕ → List Check
-recordChecks network s = networkChecks network ++ requestChecks network s
+recordChecks network s = networkChecks network ++ requestChecks (nodeCount network) s
 
 unfoldable pub requestVerdict : List ℕ → List ℕ → Verdict
 requestVerdict network s = firstOf (recordChecks network s)

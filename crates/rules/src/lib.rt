@@ -1,5 +1,8 @@
 // The types of document 01's values and answers. Their rules are the definitions in specs/.
 
+ghost use mathlib.Core.Path.{_≡_};
+ghost use Rattle.rules.specs.Checks.{refuse};
+
 // A refusal: document 01's number, and the place it names (0 where it names none).
 pub struct Refusal {
     pub number: u16,
@@ -10,6 +13,13 @@ pub struct Refusal {
 pub enum Verdict {
     Accepted,
     Refused(Refusal),
+}
+
+// The verdict that refuses with a number, at a place.
+pub fn refused(number: u16, place: usize) -> Verdict
+    ensures { λ r. ⌜ r ≡ Verdict.Refused (refuse number place) ⌝ }
+{
+    Verdict::Refused(Refusal { number, place })
 }
 
 // A network once read: n and m, both 0 beside a refusal.
