@@ -1,0 +1,76 @@
+-- Each entry's answer, and what it leaves in the rooms that it is lent, are settled by its input.
+use Prim.Native.Nat.{ℕ, _<_}
+use mathlib.Core.Path.{_≡_, refl, sym, ap, _∙_}
+use mathlib.Core.List.{List}
+use native.Mathlib.Omega.{arith}
+use denote.Ref.{RefT}
+use Rattle.rules.specs.Network.{Part}
+use Rattle.rules.specs.Answers.{Walked, Pricing, refused, stranded, priced, PricedRoute, Tablet, tabletNumber, Lent, Searching, hopeless, planned, Searched}
+use Rattle.rules.specs.declared.Request.{Request}
+use Rattle.rules.specs.declared.Verdict.{Verdict}
+use Rattle.rules.specs.declared.Verdict.the-variants.{Accepted, Refused}
+use Rattle.rules.specs.declared.Priced.{Priced}
+use Rattle.rules.specs.declared.Planned.{Planned}
+use Rattle.rules.proofs.WalkLaws.{holds-distance-unique}
+use Rattle.rules.proofs.PriceLaws.{price-unique}
+use Rattle.rules.proofs.PlanLaws.{right-plan-unique}
+use Rattle.rules.proofs.RoomLaws.{kept-unique, distances-unique, table-unique}
+
+-- A link's part of the network record is one place in memory with one content.
+pub part-unique : {whole a b : RefT (List ℕ)} {start size : ℕ} → Part whole start size a → Part whole start size b → (a .ptr ≡ b .ptr) × (a .now ≡ b .now)
+part-unique p r =
+    let block = p .memory ∙ sym (r .memory) in
+    let offset = p .place ∙ sym (r .place) in
+    (λ i. (block i, offset i), cc)
+
+-- The walking entry has one answer and leaves one content.
+pub walked-unique : {network : List ℕ} {start : ℕ} {before a b : List ℕ} {x y : Verdict} → Walked network start before a x → Walked network start before b y → (a ≡ b) × (x ≡ y)
+walked-unique {a} {b} {x} {y} w z = (content x refl (cc), cc)
+  where
+    content : (v : Verdict) → x ≡ v → y ≡ v → a ≡ b
+    content Accepted p q = kept-unique (rw p at w .kept) (rw q at z .kept) (λ v h. holds-distance-unique (w .fills p v h) (z .fills q v h))
+    content (Refused r) p q = kept-unique (rw p at w .kept) (rw q at z .kept) (λ v h. absurd (omega arith))
+
+-- Pricing has one answer and one list of meeting positions.
+pub pricing-unique : {verdict : Verdict} {network : List ℕ} {q : Request} {route meetings others : List ℕ} {a b : Priced} → Pricing verdict network q route a meetings → Pricing verdict network q route b others → (a ≡ b) × (meetings ≡ others)
+pricing-unique (refused r v a m) (refused s w b n) = (cc, cc)
+pricing-unique (refused r v a m) (stranded j w h s first b n) = (cc, cc)
+pricing-unique (refused r v a m) (priced c w p size b) = (cc, cc)
+pricing-unique (stranded i v h s first a m) (refused r w b n) = (cc, cc)
+pricing-unique (stranded i v h s first a m) (stranded j w k t lowest b n) =
+    let above : ¬ (i < j) = λ l. lowest i l s in
+    let below : ¬ (j < i) = λ l. first j l t in
+    let same : i ≡ j = omega arith in
+    (cc, cc)
+pricing-unique (stranded i v h s first a m) (priced c w p size b) = absurd (s _ _ (p .meets i h .within) (p .meets i h .walks))
+pricing-unique (priced c v p size a) (refused r w b n) = (cc, cc)
+pricing-unique (priced c v p size a) (stranded i w h s first b n) = absurd (s _ _ (p .meets i h .within) (p .meets i h .walks))
+pricing-unique (priced c v p size a) (priced d w r count b) = let same = price-unique size count p r in (cc, same .1)
+
+-- Pricing a route has one answer and leaves one content in the meeting slice.
+pub priced-route-unique : {network request route before a b : List ℕ} {x y : Priced} → PricedRoute network request route before a x → PricedRoute network request route before b y → (a ≡ b) × (x ≡ y)
+priced-route-unique p r = let same = pricing-unique (p .pricing) (r .pricing) in (cc, same .0)
+
+-- The tablet's entry has one answer.
+pub tablet-unique : {network request bytes : List ℕ} {x y : ℕ} → Tablet network request bytes x → Tablet network request bytes y → x ≡ y
+tablet-unique t u = t .tells ∙ ap tabletNumber (pricing-unique (t .pricing) (u .pricing) .0) ∙ sym (u .tells)
+
+-- The three rooms are the same where each of them is.
+pub lent-same : {a b : Lent} → a .distances ≡ b .distances → a .table ≡ b .table → a .steps ≡ b .steps → a ≡ b
+lent-same d t s = λ i. record { distances = d i; table = t i; steps = s i }
+
+-- The search, once the verdict on its records and rooms is known, has one answer and leaves one content in each room.
+pub searching-unique : {verdict : Verdict} {network : List ℕ} {q : Request} {before a b : Lent} {x y : Planned} → Searching verdict network q before a x → Searching verdict network q before b y → (a ≡ b) × (x ≡ y)
+searching-unique (refused r v x m) (refused s w y n) = (cc, cc)
+searching-unique (refused r v x m) (hopeless w d t h y n) = (cc, cc)
+searching-unique (refused r v x m) (planned plan c w d t p y n) = (cc, cc)
+searching-unique (hopeless v d t h x m) (refused r w y n) = (cc, cc)
+searching-unique (hopeless v d t h x m) (hopeless w e u i y n) = (lent-same (distances-unique d e) (table-unique t u) (cc), cc)
+searching-unique (hopeless v d t h x m) (planned plan c w e u p y n) = absurd (h _ _ (p .best .finishes))
+searching-unique (planned plan c v d t p x m) (refused r w y n) = (cc, cc)
+searching-unique (planned plan c v d t p x m) (hopeless w e u h y n) = absurd (h _ _ (p .best .finishes))
+searching-unique (planned plan c v d t p x m) (planned other k w e u r y n) = let s = right-plan-unique p r in (lent-same (distances-unique d e) (table-unique t u) (cc), cc)
+
+-- The search of a request has one answer and leaves one content in each of the three rooms.
+pub searched-unique : {network : List ℕ} (request : List ℕ) {before a b : Lent} {x y : Planned} → Searched network request before a x → Searched network request before b y → (a ≡ b) × (x ≡ y)
+searched-unique request s t = searching-unique s t
