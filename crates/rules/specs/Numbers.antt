@@ -1,13 +1,15 @@
 -- "Numbers are unsigned, big-endian."
-use Prim.Native.Nat.{ℕ, _+_, _*_}
+use Prim.Native.Nat.{ℕ, zero, suc, _+_, _*_}
 use mathlib.Core.List.{List}
 use lib.ListN.{getD}
 
 abbrev pub byte : List ℕ → ℕ → ℕ
 byte s i = getD s i 0
 
-unfoldable pub two : List ℕ → ℕ → ℕ
-two s i = 256 * byte s i + byte s (i + 1)
+-- the number of `size` bytes at i
+unfoldable pub number : ℕ → List ℕ → ℕ → ℕ
+number zero s i = 0
+number (suc size) s i = 256 * number size s i + byte s (i + size)
 
-unfoldable pub four : List ℕ → ℕ → ℕ
-four s i = 65536 * two s i + two s (i + 2)
+abbrev pub two : List ℕ → ℕ → ℕ
+two = number 2

@@ -4,7 +4,7 @@ use mathlib.Core.Bool.{Bool, _||_, cond}
 use mathlib.Core.List.{List, [], _∷_, _++_}
 use lib.ListN.{length, getD, take, drop}
 use lib.Dec.{ltb}
-use Rattle.rules.specs.Numbers.{four}
+use Rattle.rules.specs.Network.{statedLength}
 use Rattle.rules.specs.Network.{nodeCount, from, to}
 use Rattle.rules.specs.declared.Planned.{Planned}
 use Rattle.rules.specs.declared.Planned.the-variants.{Plan as Found, Refused as NotPlanned}
@@ -14,7 +14,7 @@ abbrev pub taken : List ℕ → List ℕ
 taken input = take 16424 input
 
 abbrev pub networkSize : List ℕ → ℕ
-networkSize bytes = cond (ltb (length bytes) 5 || ltb (length bytes) (four bytes 1)) (length bytes) (four bytes 1)
+networkSize bytes = cond (ltb (length bytes) 5 || ltb (length bytes) (statedLength 4 bytes)) (length bytes) (statedLength 4 bytes)
 
 abbrev pub networkPart : List ℕ → List ℕ
 networkPart input = take (networkSize (taken input)) (taken input)

@@ -1,18 +1,16 @@
 -- The request record: "version byte 1; total length (2); source (2); target (2); bus weight (1); rider count l (1); then l riders: node (2), weight (1)."
-use Prim.Native.Nat.{ℕ, _+_, _*_}
+use Prim.Native.Nat.{ℕ, _+_, _*_, _≤_, _<_}
+use mathlib.Core.Path.{_≡_}
 use mathlib.Core.Bool.{Bool, cond}
 use mathlib.Core.List.{List, [], _∷_, _++_, map}
 use lib.ListN.{length}
 use lib.Dec.{ltb, leb}
 use Rattle.rules.specs.Checks.{Check, check, firstOf, each, differ, outside, beside}
 use Rattle.rules.specs.Numbers.{byte, two}
-use Rattle.rules.specs.Network.{version, nodeCount, networkChecks}
+use Rattle.rules.specs.Network.{version, statedLength, openingChecks, nodeCount, networkChecks}
 use Rattle.rules.specs.declared.Verdict.{Verdict}
 use Rattle.rules.specs.declared.Request.{Request}
 use Rattle.rules.specs.declared.RequestRead.{RequestRead}
-
-abbrev pub statedLength : List ℕ → ℕ
-statedLength s = two s 1
 
 abbrev pub source : List ℕ → ℕ
 source s = two s 3
@@ -35,35 +33,47 @@ riderNode s j = two s (riderStart j)
 abbrev pub riderWeight : List ℕ → ℕ → ℕ
 riderWeight s j = byte s (riderStart j + 2)
 
+-- 14, 15: count above 7; length not 9+3l
+unfoldable pub countChecks : List ℕ → List Check
+countChecks s =
+    check 14 0 (ltb 7 (riderCount s)) ∷ check 15 0 (differ (length s) (riderStart (riderCount s))) ∷ []
+
 -- 16: a node of n or more (place: 0 source, 1 target, 2+j rider; lowest)
 abbrev pub nodeCheck : ℕ → ℕ → ℕ → Check
 nodeCheck n place node = check 16 place (leb n node)
 
+abbrev pub riderNodeChecks : ℕ → List ℕ → ℕ → List Check
+riderNodeChecks n s j = nodeCheck n (2 + j) (riderNode s j) ∷ []
+
 unfoldable pub nodeChecks : ℕ → List ℕ → List Check
 nodeChecks n s =
-    nodeCheck n 0 (source s)
-    ∷ nodeCheck n 1 (target s)
-    ∷ each (λ j. nodeCheck n (2 + j) (riderNode s j) ∷ []) (riderCount s) 0
+    nodeCheck n 0 (source s) ∷ nodeCheck n 1 (target s) ∷ each (riderNodeChecks n s) (riderCount s) 0
 
 -- 17: a weight outside 1 to 100 (place: 0 bus, 1+j rider; lowest)
 abbrev pub weightCheck : ℕ → ℕ → Check
 weightCheck place weight = check 17 place (outside 1 100 weight)
 
-unfoldable pub weightChecks : List ℕ → List Check
-weightChecks s =
-    weightCheck 0 (busWeight s) ∷ each (λ j. weightCheck (1 + j) (riderWeight s j) ∷ []) (riderCount s) 0
+abbrev pub riderWeightChecks : List ℕ → ℕ → List Check
+riderWeightChecks s j = weightCheck (1 + j) (riderWeight s j) ∷ []
 
--- 11, 12, 13: the same three for the request
--- 14, 15: count above 7; length not 9+3l
+unfoldable pub weightChecks : List ℕ → List Check
+weightChecks s = weightCheck 0 (busWeight s) ∷ each (riderWeightChecks s) (riderCount s) 0
+
 unfoldable pub requestChecks : ℕ → List ℕ → List Check
-requestChecks n s =
-    check 11 0 (ltb (length s) 9)
-    ∷ check 12 0 (differ (version s) 1)
-    ∷ check 13 0 (differ (statedLength s) (length s))
-    ∷ check 14 0 (ltb 7 (riderCount s))
-    ∷ check 15 0 (differ (length s) (9 + 3 * riderCount s))
-    ∷ nodeChecks n s
-    ++ weightChecks s
+requestChecks n s = openingChecks 11 2 s ++ (countChecks s ++ (nodeChecks n s ++ weightChecks s))
+
+-- What a request record for a network of n nodes is, where none of these applies: "l is 0 to 7, weights 1 to 100".
+pub record SoundRequest (n : ℕ) (s : List ℕ) : Type 0 where
+  pub long : 9 ≤ length s
+  pub edition : version s ≡ 1
+  pub stated : statedLength 2 s ≡ length s
+  pub riders : riderCount s ≤ 7
+  pub whole : length s ≡ riderStart (riderCount s)
+  pub starts : source s < n
+  pub ends : target s < n
+  pub nodes : (j : ℕ) → j < riderCount s → riderNode s j < n
+  pub bus : (1 ≤ busWeight s) × (busWeight s ≤ 100)
+  pub weights : (j : ℕ) → j < riderCount s → (1 ≤ riderWeight s j) × (riderWeight s j ≤ 100)
 
 -- "The request reader is given the network record too, whose refusals come first."
 abbrev pub recordChecks : List ℕ → List ℕ → List Check

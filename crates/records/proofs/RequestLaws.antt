@@ -1,0 +1,37 @@
+-- The checks of a request record, test by test in the order of the table, and its seven rider places. Each number that the code reads comes with what it is read from.
+use Prim.Native.Nat.{ℕ, zero, suc, _+_, _*_, _≤_, _<_}
+use native.Mathlib.Omega.{arith}
+use mathlib.Core.Path.{_≡_, refl}
+use mathlib.Core.Bool.{true, false}
+use mathlib.Core.List.{List}
+use lib.ListN.{length, set}
+use borrow.Author.Tests.{lt-ltb, le-ltb, eq-eqb, ne-eqb}
+use Rattle.rules.specs.Checks.{firstOf, refuse}
+use Rattle.rules.specs.Request.{riderCount, riderStart, countChecks, sevenPlaces}
+use Rattle.rules.specs.declared.Verdict.the-variants.{Accepted, Refused}
+
+module _ (s : List ℕ) {l : ℕ} (reads-l : l ≡ riderCount s) where
+  pub count-14 : 7 < l → firstOf (countChecks s) ≡ Refused (refuse 14 0)
+  unfolding countChecks firstOf
+  count-14 wrong = rw (← reads-l) (simp (lt-ltb _ _ wrong))
+
+  module _ (few : l ≤ 7) where
+    pub count-15 : (length s ≡ riderStart l → ⊥) → firstOf (countChecks s) ≡ Refused (refuse 15 0)
+    unfolding countChecks firstOf
+    count-15 wrong = rw (← reads-l) (simp (le-ltb _ _ few, ne-eqb _ _ wrong))
+
+    pub counted : length s ≡ riderStart l → firstOf (countChecks s) ≡ Accepted
+    unfolding countChecks firstOf
+    counted fits = rw (← reads-l) (simp (le-ltb _ _ few, eq-eqb _ _ fits))
+
+-- one rider place more is used
+pub place-more : (value : ℕ → ℕ) (j : ℕ) → j < 7 → set (sevenPlaces value j) j (value j) ≡ sevenPlaces value (j + 1)
+unfolding sevenPlaces
+place-more value zero h = refl
+place-more value (suc zero) h = refl
+place-more value (suc (suc zero)) h = refl
+place-more value (suc (suc (suc zero))) h = refl
+place-more value (suc (suc (suc (suc zero)))) h = refl
+place-more value (suc (suc (suc (suc (suc zero))))) h = refl
+place-more value (suc (suc (suc (suc (suc (suc zero)))))) h = refl
+place-more value (suc (suc (suc (suc (suc (suc (suc j))))))) h = absurd (omega arith)

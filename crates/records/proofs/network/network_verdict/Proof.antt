@@ -1,0 +1,63 @@
+use mathlib.Core.Path.{_∙_, sym}
+use native.Mathlib.Nat.{le-of-eq}
+use Rattle.rules.specs.Network.{openingChecks, sizeChecks, networkChecks, networkVerdict}
+use Rattle.rules.proofs.Order.{stops, goes-on}
+use Rattle.rules.proofs.OpeningLaws.{opening-accepted}
+use Rattle.rules.proofs.SoundNetworkLaws.{sizes-accepted}
+use borrow.Author.Needs.{needs}
+use Rattle.records.proofs.network.network_verdict.Statement.{statement}
+use Rattle.records.proofs.network.network_verdict.Tie as tie
+
+opening-verdict-requires : tie.Need-opening-verdict-requires
+opening-verdict-requires c κs = search needs
+
+enum-told : tie.Need-enum-told
+enum-told c = search needs
+
+enum-told-2 : tie.Need-enum-told-2
+enum-told-2 c = search needs
+
+returns : tie.Need-returns
+unfolding networkVerdict networkChecks
+returns c = stops _ _ (c .enum-told2 .given .0 .0) (c .before .before .opening-verdict .ensures) (c .enum-told2 .given .1)
+
+sizes-verdict-requires : tie.Need-sizes-verdict-requires
+sizes-verdict-requires c κs = opening-accepted 1 4 _ (sym (c .before .before .opening-verdict .ensures) ∙ c .enum-told .given .1) .long
+
+enum-told-3 : tie.Need-enum-told-3
+enum-told-3 c = search needs
+
+enum-told-4 : tie.Need-enum-told-4
+enum-told-4 c = search needs
+
+returns-2 : tie.Need-returns-2
+unfolding networkVerdict networkChecks
+returns-2 c =
+    stops _ _ (c .enum-told4 .given .0 .0) (c .before .before .sizes-verdict .ensures) (c .enum-told4 .given .1)
+    ∙ goes-on (openingChecks 1 4 _) _ (c .before .before .before .before .before .opening-verdict .ensures) (c .before .before .before .enum-told .given .1)
+
+links-verdict-requires : tie.Need-links-verdict-requires
+links-verdict-requires c κs =
+    le-of-eq (sym (sizes-accepted _ (sym (c .before .before .sizes-verdict .ensures) ∙ c .enum-told3 .given .1) .whole))
+
+returns-3 : tie.Need-returns-3
+unfolding networkVerdict networkChecks
+returns-3 c =
+    c .links-verdict .ensures
+    ∙ goes-on (sizeChecks _) _ (c .before .before .before .sizes-verdict .ensures) (c .before .enum-told3 .given .1)
+    ∙ goes-on (openingChecks 1 4 _) _ (c .before .before .before .before .before .before .opening-verdict .ensures) (c .before .before .before .before .enum-told .given .1)
+
+pub network-verdict-spec : {M : Type 1} → statement M
+network-verdict-spec =
+    tie.close
+    (tie.spec
+    opening-verdict-requires
+    enum-told
+    enum-told-2
+    returns
+    sizes-verdict-requires
+    enum-told-3
+    enum-told-4
+    returns-2
+    links-verdict-requires
+    returns-3)

@@ -1,0 +1,44 @@
+use native.Mathlib.Omega.{arith}
+use native.Mathlib.Omega.{arith}
+use mathlib.Core.Path.{_∙_, sym}
+use Rattle.rules.specs.Network.{networkOf}
+use Rattle.rules.proofs.SoundNetworkLaws.{network-sound}
+use borrow.Author.Needs.{needs}
+use Rattle.records.proofs.network.read_network.Statement.{statement}
+use Rattle.records.proofs.network.read_network.Tie as tie
+
+network-verdict-requires : tie.Need-network-verdict-requires
+network-verdict-requires c κs = search needs
+
+enum-told : tie.Need-enum-told
+enum-told c = search needs
+
+enum-told-2 : tie.Need-enum-told-2
+enum-told-2 c = search needs
+
+returns : tie.Need-returns
+unfolding networkOf
+returns c = rw (← c .before .before .network-verdict .ensures, c .enum-told2 .given .1)
+
+two-requires : tie.Need-two-requires
+two-requires c κs = omega (arith, network-sound _ (sym (c .before .before .network-verdict .ensures) ∙ c .enum-told .given .1) .long)
+
+two-requires-2 : tie.Need-two-requires-2
+two-requires-2 c κs = network-sound _ (sym (c .before .before .before .network-verdict .ensures) ∙ c .before .enum-told .given .1) .long
+
+returns-2 : tie.Need-returns-2
+unfolding networkOf
+returns-2 c =
+    rw (← c .before .before .before .before .network-verdict .ensures, c .before .before .enum-told .given .1, c .before .two .ensures .value, c .two2 .ensures .value)
+
+pub read-network-spec : {M : Type 1} → statement M
+read-network-spec =
+    tie.close
+    (tie.spec
+    network-verdict-requires
+    enum-told
+    enum-told-2
+    returns
+    two-requires
+    two-requires-2
+    returns-2)

@@ -1,0 +1,56 @@
+use borrow.Author.Tests.{le-leb, lt-leb}
+use mathlib.Core.Path.{_∙_, sym}
+use Rattle.rules.specs.Request.{nodeChecks}
+use Rattle.rules.proofs.Order.{given, passed}
+use borrow.Author.Needs.{needs}
+use Rattle.records.proofs.request.nodes_verdict.Statement.{statement}
+use Rattle.records.proofs.request.nodes_verdict.Tie as tie
+
+two-requires : tie.Need-two-requires
+two-requires c κs = search needs
+
+refused-requires : tie.Need-refused-requires
+refused-requires c κs = search needs
+
+returns : tie.Need-returns
+unfolding nodeChecks
+returns c =
+    c .refused .ensures ∙ sym (given 16 0 _ (rw (c .before .before .two .ensures .value) at (le-leb _ _ (c .before .if1 .taken))))
+
+two-requires-2 : tie.Need-two-requires-2
+two-requires-2 c κs = search needs
+
+refused-requires-2 : tie.Need-refused-requires-2
+refused-requires-2 c κs = search needs
+
+returns-2 : tie.Need-returns-2
+unfolding nodeChecks
+returns-2 c =
+    c .refused2 .ensures
+    ∙ sym
+    (passed 16 0 _ (rw (c .before .before .before .before .two .ensures .value) at (lt-leb _ _ (c .before .before .before .if1 .left)))
+    ∙ given 16 1 _ (rw (c .before .before .two2 .ensures .value) at (le-leb _ _ (c .before .if2 .taken))))
+
+rider-nodes-verdict-requires : tie.Need-rider-nodes-verdict-requires
+rider-nodes-verdict-requires c κs = search needs
+
+returns-3 : tie.Need-returns-3
+unfolding nodeChecks
+returns-3 c =
+    c .rider-nodes-verdict .ensures
+    ∙ sym
+    (passed 16 0 _ (rw (c .before .before .before .before .two .ensures .value) at (lt-leb _ _ (c .before .before .before .if1 .left)))
+    ∙ passed 16 1 _ (rw (c .before .before .two2 .ensures .value) at (lt-leb _ _ (c .before .if2 .left))))
+
+pub nodes-verdict-spec : {M : Type 1} → statement M
+nodes-verdict-spec =
+    tie.close
+    (tie.spec
+    two-requires
+    refused-requires
+    returns
+    two-requires-2
+    refused-requires-2
+    returns-2
+    rider-nodes-verdict-requires
+    returns-3)

@@ -1,0 +1,44 @@
+use mathlib.Core.Path.{_∙_, sym}
+use native.Mathlib.Nat.{le-of-eq}
+use Rattle.rules.proofs.SoundRequestLaws.{records-sound}
+use Rattle.rules.specs.Request.{requestOf}
+use borrow.Author.Needs.{needs}
+use Rattle.records.proofs.request.read_request.Statement.{statement}
+use Rattle.records.proofs.request.read_request.Tie as tie
+
+request-verdict-requires : tie.Need-request-verdict-requires
+request-verdict-requires c κs = search needs
+
+enum-told : tie.Need-enum-told
+enum-told c = search needs
+
+enum-told-2 : tie.Need-enum-told-2
+enum-told-2 c = search needs
+
+no-request-requires : tie.Need-no-request-requires
+no-request-requires c κs = search needs
+
+returns : tie.Need-returns
+unfolding requestOf
+returns c = rw (← c .before .before .before .request-verdict .ensures, c .before .enum-told2 .given .1, c .no-request .ensures)
+
+request-value-requires : tie.Need-request-value-requires
+request-value-requires c κs =
+    let (network, request) = records-sound _ _ (sym (c .before .before .request-verdict .ensures) ∙ c .enum-told .given .1) in
+    (request .riders, le-of-eq (sym (request .whole)))
+
+returns-2 : tie.Need-returns-2
+unfolding requestOf
+returns-2 c = rw (← c .before .before .before .request-verdict .ensures, c .before .enum-told .given .1, c .request-value .ensures)
+
+pub read-request-spec : {M : Type 1} → statement M
+read-request-spec =
+    tie.close
+    (tie.spec
+    request-verdict-requires
+    enum-told
+    enum-told-2
+    no-request-requires
+    returns
+    request-value-requires
+    returns-2)

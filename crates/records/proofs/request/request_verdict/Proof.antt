@@ -1,0 +1,48 @@
+use native.Mathlib.Omega.{arith}
+use native.Mathlib.Omega.{arith}
+use mathlib.Core.Path.{_∙_, sym}
+use Rattle.rules.specs.Network.{networkChecks, networkVerdict}
+use Rattle.rules.specs.Request.{requestVerdict}
+use Rattle.rules.proofs.Order.{stops, goes-on}
+use Rattle.rules.proofs.SoundNetworkLaws.{network-sound}
+use borrow.Author.Needs.{needs}
+use Rattle.records.proofs.request.request_verdict.Statement.{statement}
+use Rattle.records.proofs.request.request_verdict.Tie as tie
+
+network-verdict-requires : tie.Need-network-verdict-requires
+network-verdict-requires c κs = search needs
+
+enum-told : tie.Need-enum-told
+enum-told c = search needs
+
+enum-told-2 : tie.Need-enum-told-2
+enum-told-2 c = search needs
+
+returns : tie.Need-returns
+unfolding requestVerdict networkVerdict
+returns c = stops _ _ (c .enum-told2 .given .0 .0) (c .before .before .network-verdict .ensures) (c .enum-told2 .given .1)
+
+two-requires : tie.Need-two-requires
+two-requires c κs =
+    omega (arith, network-sound _ (sym (c .before .before .network-verdict .ensures) ∙ c .enum-told .given .1) .long)
+
+own-verdict-requires : tie.Need-own-verdict-requires
+own-verdict-requires c κs = search needs
+
+returns-2 : tie.Need-returns-2
+unfolding requestVerdict networkVerdict
+returns-2 c =
+    rw (c .before .two .ensures .value) at (c .own-verdict .ensures)
+    ∙ goes-on (networkChecks _) _ (c .before .before .before .before .network-verdict .ensures) (c .before .before .enum-told .given .1)
+
+pub request-verdict-spec : {M : Type 1} → statement M
+request-verdict-spec =
+    tie.close
+    (tie.spec
+    network-verdict-requires
+    enum-told
+    enum-told-2
+    returns
+    two-requires
+    own-verdict-requires
+    returns-2)

@@ -1,0 +1,70 @@
+use native.Mathlib.Omega.{arith}
+use native.Mathlib.Omega.{arith}
+use mathlib.Core.Path.{refl, _∙_, ap}
+use Rattle.records.proofs.RequestLaws.{place-more}
+use borrow.Author.Needs.{needs}
+use Prim.Native.Nat.{_-_, _≤_}
+use mathlib.Core.Path.{_≡_}
+use Rattle.rules.specs.Request.{riderNode, sevenPlaces}
+use Rattle.records.proofs.request.rider_nodes.Statement.{statement}
+use Rattle.records.proofs.request.rider_nodes.Tie as tie
+
+abbrev Inv-loop : tie.InvT-loop
+Inv-loop request count nodes₀ j₀ nodes j = (j ≤ count) × (nodes ≡ sevenPlaces (riderNode request) j)
+
+abbrev μ-loop : tie.MeasureT-loop
+μ-loop request count nodes₀ j₀ nodes j = count - j
+
+loop-holds : tie.Need-loop-holds Inv-loop μ-loop
+unfolding sevenPlaces
+loop-holds c = (omega arith, refl)
+
+mul-two : tie.Need-mul-two Inv-loop μ-loop
+mul-two c = search needs
+
+add-two : tie.Need-add-two Inv-loop μ-loop
+add-two c = search needs
+
+two-requires : tie.Need-two-requires Inv-loop μ-loop
+two-requires c κs = search needs
+
+mul-nodes : tie.Need-mul-nodes Inv-loop μ-loop
+mul-nodes c = search needs
+
+array-write-nodes : tie.Need-array-write-nodes Inv-loop μ-loop
+array-write-nodes c = omega arith
+
+add-j : tie.Need-add-j Inv-loop μ-loop
+add-j c = search needs
+
+loop-less : tie.Need-loop-less Inv-loop μ-loop
+loop-less c = search needs
+
+loop-again : tie.Need-loop-again Inv-loop μ-loop
+loop-again c = (
+  omega arith,
+  rw (c .two .ensures .value, c .before .before .loop .inv .1)
+      (place-more (riderNode (c .before .before .before .before .args .request .now)) (c .before .before .loop .j) (omega arith)),
+)
+
+returns : tie.Need-returns Inv-loop μ-loop
+returns c =
+    let all : c .before .loop .j ≡ c .before .before .before .args .count = omega arith in
+    c .before .loop .inv .1 ∙ ap (sevenPlaces _) all
+
+pub rider-nodes-spec : {M : Type 1} → statement M
+rider-nodes-spec =
+    tie.close
+    (tie.spec
+    Inv-loop
+    μ-loop
+    loop-holds
+    mul-two
+    add-two
+    two-requires
+    mul-nodes
+    array-write-nodes
+    add-j
+    loop-less
+    loop-again
+    returns)

@@ -1,0 +1,69 @@
+// Numbers of a record that is known to be long enough. Only the other crates call these: hosts call the readers.
+ghost use Prim.Native.Nat.{_+_, _<_, _≤_};
+ghost use mathlib.Core.Path.{_≡_};
+ghost use lib.ListN.{length};
+ghost use Rattle.rules.specs.Numbers;
+ghost use Rattle.rules.specs.Network.{linkStart, from, to, drive, walk};
+ghost use Rattle.records.specs.Inner.{Is};
+
+// The byte at i.
+pub fn byte(s: &[u8], i: usize) -> usize
+    requires { ⌜ i < length (now s) ⌝ }
+    ensures { λ r. ⌜ Is (Numbers.byte (now (s .entry)) i) 256 r ⌝ }
+{
+    s[i] as usize
+}
+
+// The number of `size` bytes at i.
+pub fn number(s: &[u8], i: usize, size: usize) -> usize
+    requires { ⌜ (size ≤ 4) × (i + size ≤ length (now s)) ⌝ }
+    ensures { λ r. ⌜ r ≡ Numbers.number size (now (s .entry)) i ⌝ }
+{
+    let mut x = 0;
+    let mut k = 0;
+    while k < size {
+        x = 256 * x + byte(s, i + k);
+        k += 1;
+    }
+    x
+}
+
+// The number of two bytes at i.
+pub fn two(s: &[u8], i: usize) -> usize
+    requires { ⌜ i + 2 ≤ length (now s) ⌝ }
+    ensures { λ r. ⌜ Is (Numbers.two (now (s .entry)) i) 65536 r ⌝ }
+{
+    256 * byte(s, i) + byte(s, i + 1)
+}
+
+// The node that link k starts at.
+pub fn from(network: &[u8], k: usize) -> usize
+    requires { ⌜ linkStart k + 8 ≤ length (now network) ⌝ }
+    ensures { λ r. ⌜ Is (from (now (network .entry)) k) 65536 r ⌝ }
+{
+    two(network, 9 + 8 * k)
+}
+
+// The node that link k ends at.
+pub fn to(network: &[u8], k: usize) -> usize
+    requires { ⌜ linkStart k + 8 ≤ length (now network) ⌝ }
+    ensures { λ r. ⌜ Is (to (now (network .entry)) k) 65536 r ⌝ }
+{
+    two(network, 9 + 8 * k + 2)
+}
+
+// What driving link k costs, or 65,535 where it is closed to the bus.
+pub fn drive(network: &[u8], k: usize) -> u64
+    requires { ⌜ linkStart k + 8 ≤ length (now network) ⌝ }
+    ensures { λ r. ⌜ Is (drive (now (network .entry)) k) 65536 r ⌝ }
+{
+    two(network, 9 + 8 * k + 4) as u64
+}
+
+// What walking link k costs, or 65,535 where it is closed to walkers.
+pub fn walk(network: &[u8], k: usize) -> u32
+    requires { ⌜ linkStart k + 8 ≤ length (now network) ⌝ }
+    ensures { λ r. ⌜ Is (walk (now (network .entry)) k) 65536 r ⌝ }
+{
+    two(network, 9 + 8 * k + 6) as u32
+}

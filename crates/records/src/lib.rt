@@ -1,0 +1,9 @@
+// Readers of the two records of document 01. Every slice, of any length and content, gets its value or its refusal.
+mod common;
+pub mod inner;
+mod network;
+mod request;
+
+pub use network::link;
+pub use network::read_network;
+pub use request::read_request;

@@ -1,0 +1,105 @@
+// The network record: its reader, and a link's part of it.
+use crate::common::opening_verdict;
+use crate::common::outside;
+use crate::inner;
+use rules::NetworkRead;
+use rules::Verdict;
+use rules::refused;
+ghost use Prim.Native.Nat.{_+_, _≤_};
+ghost use mathlib.Core.Path.{_≡_};
+ghost use lib.ListN.{length};
+ghost use Rattle.rules.specs.Checks.{firstOf, each};
+ghost use Rattle.rules.specs.Network.{nodeCount, linkCount, linkStart, linkBeyond, sizeChecks, linkChecks, networkVerdict, networkOf, LinkPart};
+
+// Reads a network record: n and m, or its refusal with both 0 beside it.
+pub fn read_network(network: &[u8]) -> NetworkRead
+    ensures { λ r. ⌜ r ≡ networkOf (now (network .entry)) ⌝ }
+{
+    let verdict = network_verdict(network);
+    let Verdict::Accepted = verdict else {
+        return NetworkRead {
+            verdict,
+            n: 0,
+            m: 0,
+        };
+    };
+    NetworkRead {
+        verdict,
+        n: inner::two(network, 5),
+        m: inner::two(network, 7),
+    }
+}
+
+// The eight bytes of link k in the record itself, or the empty part at its start where there is no such link to read.
+pub fn link(network: &[u8], k: usize) -> &[u8]
+    ensures { λ r. ⌜ LinkPart (network .entry) k r ⌝ }
+{
+    let m = read_network(network).m;
+    if m <= k {
+        return &network[0..0];
+    }
+    let start = 9 + 8 * k;
+    let end = start + 8;
+    &network[start..end]
+}
+
+// Refusals 1 to 6.
+pub fn network_verdict(network: &[u8]) -> Verdict
+    ensures { λ r. ⌜ r ≡ networkVerdict (now (network .entry)) ⌝ }
+{
+    let opening = opening_verdict(network, 1, 4);
+    let Verdict::Accepted = opening else {
+        return opening;
+    };
+    let sizes = sizes_verdict(network);
+    let Verdict::Accepted = sizes else {
+        return sizes;
+    };
+    links_verdict(network)
+}
+
+// Refusals 4 and 5.
+fn sizes_verdict(network: &[u8]) -> Verdict
+    requires { ⌜ 9 ≤ length (now network) ⌝ }
+    ensures { λ r. ⌜ r ≡ firstOf (sizeChecks (now (network .entry))) ⌝ }
+{
+    if outside(1, 512, inner::two(network, 5)) {
+        return refused(4, 0);
+    }
+    let m = inner::two(network, 7);
+    if outside(0, 2048, m) {
+        return refused(4, 0);
+    }
+    if network.len() != 9 + 8 * m {
+        return refused(5, 0);
+    }
+    Verdict::Accepted
+}
+
+// Refusal 6 at the lowest link that names a node of n or more.
+fn links_verdict(network: &[u8]) -> Verdict
+    requires { ⌜ linkStart (linkCount (now network)) ≤ length (now network) ⌝ }
+    ensures { λ r. ⌜ r ≡ firstOf (each (linkChecks (now (network .entry))) (linkCount (now (network .entry))) 0) ⌝ }
+{
+    let n = inner::two(network, 5);
+    let m = inner::two(network, 7);
+    let mut k = 0;
+    while k < m {
+        if link_beyond(network, n, k) {
+            return refused(6, k);
+        }
+        k += 1;
+    }
+    Verdict::Accepted
+}
+
+// Whether link k names a node of n or more.
+fn link_beyond(network: &[u8], n: usize, k: usize) -> bool
+    requires { ⌜ (n ≡ nodeCount (now network)) × (linkStart k + 8 ≤ length (now network)) ⌝ }
+    ensures { λ r. ⌜ r ≡ linkBeyond (now (network .entry)) k ⌝ }
+{
+    if n <= inner::from(network, k) {
+        return true;
+    }
+    n <= inner::to(network, k)
+}
