@@ -1,0 +1,5 @@
+pub mod Least
+pub mod Trips
+pub mod Few
+pub mod Shortening
+pub mod Walking
