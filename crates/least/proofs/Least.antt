@@ -24,8 +24,8 @@ carry {cap} {P} {Q} {t} under into l =
       met = λ h. into t h (l .met h);
     }
 
-pub same : {cap : ℕ} {P Q : ℕ → Type 0} {t : ℕ} → ((d : ℕ) → P d ↔ Q d) → Least cap P t → Least cap Q t
-same iff = carry (λ d q. (d, iff d .1 q, le-refl d)) (λ d h. iff d .0)
+pub least-iff : {cap : ℕ} {P Q : ℕ → Type 0} {t : ℕ} → ((d : ℕ) → P d ↔ Q d) → Least cap P t → Least cap Q t
+least-iff iff = carry (λ d q. (d, iff d .1 q, le-refl d)) (λ d h. iff d .0)
 
 pub least-min : {cap : ℕ} {P Q : ℕ → Type 0} {s t : ℕ} → Least cap P s → Least cap Q t → Least cap (λ d. P d ⊎ Q d) (min s t)
 least-min {cap} {P} {Q} {s} {t} a b =
