@@ -7,7 +7,7 @@ use native.Mathlib.Decide.{decLt}
 use native.Mathlib.Omega.{arith, min-cases}
 use Rattle.least.specs.Least.{Least}
 
--- The wider choice has the smaller least.
+-- The wider the choice, the smaller its least.
 pub wider : {cap : ℕ} {P Q : ℕ → Type 0} {s t : ℕ} → ((d : ℕ) → Q d → P d) → Least cap P s → Least cap Q t → s ≤ t
 wider {cap} {P} {Q} {s} {t} into a b = elim (decLt t cap) [ yes h ↦ a .lowest t (into t (b .met h)) | no h ↦ omega arith ]
 
@@ -15,7 +15,7 @@ wider {cap} {P} {Q} {s} {t} into a b = elim (decLt t cap) [ yes h ↦ a .lowest 
 pub unique : {cap : ℕ} {P : ℕ → Type 0} {s t : ℕ} → Least cap P s → Least cap P t → s ≡ t
 unique a b = omega (arith, wider (λ d p. p) a b, wider (λ d p. p) b a)
 
--- P and Q have one least if P undercuts Q and what of P is below the cap is of Q.
+-- The least of P is the least of Q if P undercuts Q and what P has below the cap, Q has.
 pub carry : {cap : ℕ} {P Q : ℕ → Type 0} {t : ℕ} → ((d : ℕ) → Q d → (e : ℕ) × P e × (e ≤ d)) → ((d : ℕ) → d < cap → P d → Q d) → Least cap P t → Least cap Q t
 carry {cap} {P} {Q} {t} under into l =
     record {

@@ -25,7 +25,10 @@ module _ {Arc : Arcs} {Init : Inits} where
       (step v w rest (h, a) s e, ap suc same)
 
   -- Either the trip never stands at x, or there is a shortened one from x: what follows its last visit there does not stand at x again.
-  last : {P : ℕ → Type 0} (x k : ℕ) → ((v rest : ℕ) (t : Among (Without P x) Arc Init v rest) → Shortened Arc Init k v rest (arcCount t)) → {u sum : ℕ} (t : Among P Arc Init u sum) → ((s : Among (Without P x) Arc Init u sum) × (arcCount s ≡ arcCount t)) ⊎ Shortened Arc Init (suc k) x sum (arcCount t)
+  last : {P : ℕ → Type 0} (x k : ℕ)
+      → ((v rest : ℕ) (t : Among (Without P x) Arc Init v rest) → Shortened Arc Init k v rest (arcCount t))
+      → {u sum : ℕ} (t : Among P Arc Init u sum)
+      → ((s : Among (Without P x) Arc Init u sum) × (arcCount s ≡ arcCount t)) ⊎ Shortened Arc Init (suc k) x sum (arcCount t)
   unfolding arcCount
   last x k shorten {u} {sum} (done i) = elim (ℕ-discrete u x) [
     | yes e ↦ inr (record { sum = sum; trip = done (rw e at (i .1)); cheap = le-refl sum; fewer = le-refl 0; short = omega arith })

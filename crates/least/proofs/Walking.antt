@@ -1,6 +1,6 @@
 -- Walks are trips, and walking distances their least sums.
 use Prim.Native.Nat.{ℕ, _+_, _≤_, _<_}
-use mathlib.Core.Path.{_≡_, refl, subst, subst₂}
+use mathlib.Core.Path.{refl, subst, subst₂}
 use mathlib.Core.Logic.{inl, inr}
 use mathlib.Core.List.{List, [], _∷_}
 use native.Mathlib.Nat.{add-zero}
@@ -13,6 +13,7 @@ use Rattle.least.specs.Walking.{Linked, EndsBelow, WalkBack, WalkTrip}
 use Rattle.least.proofs.Shortening.{bounded}
 
 module _ {Link : ℕ → Arcs} where
+  -- A way is a trip to its end, over links.
   pub way-trip : {u v sum : ℕ} {links : List ℕ} → Way Link v u links sum → Trip (Linked Link) (At v) u sum
   way-trip (arrived here free) = done (here, free)
   way-trip (along {k = k} x w rest link way e) = step x w rest (k, link) (way-trip way) e
@@ -29,10 +30,12 @@ module _ {Arc : Arcs} where
   before {start = start} (done i) s = subst₂ (Trip (Turned Arc) (At start)) (i .0) (omega arith) s
   before {u} {v} {start} {rest = rest} (step x w c a t e) s = subst (Trip (Turned Arc) (At start) v) (omega arith) (before t (step u w rest a s refl))
 
+  -- A trip to v, gone backwards.
   pub turned : {u v sum : ℕ} → Trip Arc (At v) u sum → Trip (Turned Arc) (At u) v sum
   turned {sum = sum} t = rw (← add-zero sum) (before t (done (refl, refl)))
 
 module _ {network : List ℕ} {start v : ℕ} where
+  -- A walk is a trip back to its start.
   pub walk-trip : {sum : ℕ} {links : List ℕ} → Walk network start v links sum → WalkTrip network start v sum
   walk-trip walk = turned (way-trip walk)
 

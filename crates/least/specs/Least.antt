@@ -8,11 +8,11 @@ pub record Least (cap : ℕ) (P : ℕ → Type 0) (t : ℕ) : Type 0 where
   pub lowest : (d : ℕ) → P d → t ≤ d
   pub met : t < cap → P t
 
--- Tentative sums of the nodes below n: none is above the cap or above a start, and each below the cap is the sum of a trip.
-pub record Tentative (cap n : ℕ) (Arc : Arcs) (Init : Inits) (T : ℕ → ℕ) : Type 0 where
-  pub capped : (u : ℕ) → u < n → T u ≤ cap
-  pub started : (u c : ℕ) → u < n → Init u c → T u ≤ c
-  pub met : (u : ℕ) → u < n → T u < cap → Trip Arc Init u (T u)
+-- t is a tentative sum of u: neither above the cap nor above a start, and below the cap the sum of a trip.
+pub record Tentative (cap : ℕ) (Arc : Arcs) (Init : Inits) (u t : ℕ) : Type 0 where
+  pub capped : t ≤ cap
+  pub started : (c : ℕ) → Init u c → t ≤ c
+  pub met : t < cap → Trip Arc Init u t
 
 -- No arc between nodes below n makes a sum smaller.
 abbrev pub Relaxed : ℕ → Arcs → (ℕ → ℕ) → Type 0
