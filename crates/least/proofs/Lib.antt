@@ -1,0 +1,6 @@
+pub mod Least
+pub mod Trips
+pub mod Spread
+pub mod Few
+pub mod Shortening
+pub mod Walking
