@@ -2,3 +2,4 @@
 pub mod NumberLaws
 pub mod NetworkLaws
 pub mod RequestLaws
+pub mod Promises

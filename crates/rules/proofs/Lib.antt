@@ -4,6 +4,7 @@ pub mod TestLaws
 pub mod OpeningLaws
 pub mod SoundNetworkLaws
 pub mod SoundRequestLaws
+pub mod LinkLaws
 pub mod WalkLaws
 pub mod PriceLaws
 pub mod PlanLaws

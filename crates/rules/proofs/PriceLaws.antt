@@ -5,7 +5,8 @@ use mathlib.Core.List.{List}
 use native.Mathlib.Omega.{arith}
 use lib.ListN.{length}
 use lib.Seq.{ext-getD}
-use Rattle.rules.specs.Routes.{Meeting, Price, sum, riderWeightOf}
+use Rattle.rules.specs.Request.{riderWeightOf}
+use Rattle.rules.specs.Routes.{Meeting, Price, sum}
 use Rattle.rules.specs.declared.Request.{Request}
 use Rattle.rules.proofs.WalkLaws.{way-sum}
 

@@ -2,13 +2,13 @@
 use Prim.Native.Nat.{ℕ, zero, suc, _+_, _≤_, _<_}
 use native.Mathlib.Omega.{arith}
 use native.Mathlib.Nat.{zero-add}
-use mathlib.Core.Path.{_≡_, refl, _∙_}
+use mathlib.Core.Path.{_≡_, _∙_}
 use mathlib.Core.List.{List}
 use lib.ListN.{length, getD}
 use borrow.Author.Tests.{ltb-false, leb-false, le-ltb, lt-ltb, lt-leb, eq-eqb}
 use Rattle.rules.specs.Checks.{firstOf, each}
 use Rattle.rules.specs.Network.{openingChecks, nodeCount, networkChecks, networkVerdict, SoundNetwork}
-use Rattle.rules.specs.Request.{source, target, busWeight, riderCount, riderStart, riderNode, riderWeight, countChecks, riderNodeChecks, nodeChecks, riderWeightChecks, weightChecks, requestChecks, requestVerdict, SoundRequest, sevenPlaces}
+use Rattle.rules.specs.Request.{source, target, busWeight, riderCount, riderStart, riderNode, riderWeight, countChecks, riderNodeChecks, nodeChecks, riderWeightChecks, weightChecks, requestChecks, requestVerdict, SoundRequest, sevenPlaces, requestValue, SoundValue}
 use Rattle.rules.specs.declared.Verdict.the-variants.{Accepted}
 use Rattle.rules.proofs.Order.{accepted-head, accepted-front, accepted-rest, accepted-each, front-passed, all-pass}
 use Rattle.rules.proofs.TestLaws.{same, within, not-outside}
@@ -127,3 +127,28 @@ pub sound-records : (network s : List ℕ) → SoundNetwork network → SoundReq
 unfolding requestVerdict networkVerdict
 sound-records network s a b =
     front-passed (networkChecks network) _ (sound-network network a) ∙ sound-request (nodeCount network) s b
+
+-- a place in use holds its rider's number
+place-used : (value : ℕ → ℕ) (used j : ℕ) → j < 7 → j < used → getD (sevenPlaces value used) j 0 ≡ value j
+unfolding sevenPlaces
+place-used value used zero h g = simp (lt-ltb _ _ g)
+place-used value used (suc zero) h g = simp (lt-ltb _ _ g)
+place-used value used (suc (suc zero)) h g = simp (lt-ltb _ _ g)
+place-used value used (suc (suc (suc zero))) h g = simp (lt-ltb _ _ g)
+place-used value used (suc (suc (suc (suc zero)))) h g = simp (lt-ltb _ _ g)
+place-used value used (suc (suc (suc (suc (suc zero))))) h g = simp (lt-ltb _ _ g)
+place-used value used (suc (suc (suc (suc (suc (suc zero)))))) h g = simp (lt-ltb _ _ g)
+place-used value used (suc (suc (suc (suc (suc (suc (suc j))))))) h g = absurd (omega arith)
+
+-- the value of a sound request record is sound
+pub value-sound : (n : ℕ) (s : List ℕ) → SoundRequest n s → SoundValue n (requestValue s)
+unfolding requestValue
+value-sound n s so =
+    record {
+      riders = so .riders;
+      starts = so .starts;
+      ends = so .ends;
+      nodes = λ j h. rw (place-used (riderNode s) (riderCount s) j (omega arith) h) (so .nodes j h);
+      bus = so .bus;
+      weights = λ j h. rw (place-used (riderWeight s) (riderCount s) j (omega arith) h) (so .weights j h);
+    }

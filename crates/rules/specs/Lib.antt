@@ -9,3 +9,4 @@ pub mod Plans
 pub mod Rooms
 pub mod Answers
 pub mod Program
+pub mod Town

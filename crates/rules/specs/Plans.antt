@@ -4,7 +4,8 @@ use mathlib.Core.Path.{_≡_}
 use mathlib.Core.Logic.{_⊎_}
 use mathlib.Core.List.{List, [], _∷_}
 use lib.ListN.{length}
-use Rattle.rules.specs.Routes.{Drivable, RiderWalks, riderWeightOf}
+use Rattle.rules.specs.Request.{riderWeightOf}
+use Rattle.rules.specs.Routes.{Drivable, RiderWalks}
 use Rattle.rules.specs.declared.Request.{Request}
 
 -- "R is a set of riders still to be met, numbered by its bits (rider j has bit 2^j)."

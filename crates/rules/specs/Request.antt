@@ -3,7 +3,7 @@ use Prim.Native.Nat.{ℕ, _+_, _*_, _≤_, _<_}
 use mathlib.Core.Path.{_≡_}
 use mathlib.Core.Bool.{Bool, cond}
 use mathlib.Core.List.{List, [], _∷_, _++_, map}
-use lib.ListN.{length}
+use lib.ListN.{length, getD}
 use lib.Dec.{ltb, leb}
 use Rattle.rules.specs.Checks.{Check, check, firstOf, each, differ, outside, beside}
 use Rattle.rules.specs.Numbers.{byte, two}
@@ -96,6 +96,21 @@ requestValue s =
       nodes = sevenPlaces (riderNode s) (riderCount s);
       weights = sevenPlaces (riderWeight s) (riderCount s);
     }
+
+abbrev pub riderNodeOf : Request → ℕ → ℕ
+riderNodeOf q j = getD (q .nodes) j 0
+
+abbrev pub riderWeightOf : Request → ℕ → ℕ
+riderWeightOf q j = getD (q .weights) j 0
+
+-- a sound request, as its value says it
+pub record SoundValue (n : ℕ) (q : Request) : Type 0 where
+  pub riders : q .count ≤ 7
+  pub starts : q .source < n
+  pub ends : q .target < n
+  pub nodes : (j : ℕ) → j < q .count → riderNodeOf q j < n
+  pub bus : (1 ≤ q .weight) × (q .weight ≤ 100)
+  pub weights : (j : ℕ) → j < q .count → (1 ≤ riderWeightOf q j) × (riderWeightOf q j ≤ 100)
 
 unfoldable pub noRequest : Request
 noRequest =

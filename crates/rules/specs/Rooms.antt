@@ -6,7 +6,7 @@ use mathlib.Core.List.{List, _++_}
 use lib.ListN.{length, getD, drop}
 use Rattle.rules.specs.Network.{nodeCount}
 use Rattle.rules.specs.Walks.{HoldsDistance}
-use Rattle.rules.specs.Routes.{riderNodeOf}
+use Rattle.rules.specs.Request.{riderNodeOf}
 use Rattle.rules.specs.Plans.{Best, NoFinish}
 use Rattle.rules.specs.declared.Request.{Request}
 

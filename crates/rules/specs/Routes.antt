@@ -6,6 +6,7 @@ use lib.ListN.{length, getD}
 use lib.Dec.{ltb, leb}
 use Rattle.rules.specs.Checks.{Check, check, each, differ}
 use Rattle.rules.specs.Network.{linkCount, from, to, drive, closed}
+use Rattle.rules.specs.Request.{riderNodeOf, riderWeightOf}
 use Rattle.rules.specs.Walks.{Leads, Way, WalkingDistance}
 use Rattle.rules.specs.declared.Request.{Request}
 
@@ -23,12 +24,6 @@ nodeAt network u [] (suc position) = u
 nodeAt network u (k ∷ route) (suc position) = nodeAt network (to network k) route position
 
 -- rider j has the walking distance d to the node v
-abbrev pub riderNodeOf : Request → ℕ → ℕ
-riderNodeOf q j = getD (q .nodes) j 0
-
-abbrev pub riderWeightOf : Request → ℕ → ℕ
-riderWeightOf q j = getD (q .weights) j 0
-
 abbrev pub RiderWalks : List ℕ → Request → ℕ → ℕ → ℕ → Type 0
 RiderWalks network q j v d = WalkingDistance network (riderNodeOf q j) v d
 
