@@ -1,0 +1,3 @@
+-- Laws of engines that relax arcs.
+pub mod RelaxingLaws
+pub mod WalkLinkLaws

@@ -1,0 +1,77 @@
+use mathlib.Core.Path.{_≡_}
+use native.Mathlib.Omega.{arith}
+use borrow.Author.Needs.{needs}
+use Prim.Native.Nat.{_-_, _≤_}
+use native.Mathlib.Omega.{arith}
+use Rattle.rules.specs.Network.{nodeCount, linkCount}
+use Rattle.least.specs.Walking.{WalkBack}
+use Rattle.spread.specs.Relaxing.{Progress, RelaxedBelow}
+use Rattle.spread.specs.Walking.{WalkLink}
+use Rattle.spread.proofs.RelaxingLaws.{progress-none, next-link, relaxing-kept}
+use Rattle.spread.proofs.inner.walk_round.Statement.{statement}
+use Rattle.spread.proofs.inner.walk_round.Tie as tie
+
+abbrev Inv-loop : tie.InvT-loop
+Inv-loop network distances₀ m changes₀ k₀ distances changes k =
+    (k ≤ m)
+    × (changes ≤ k)
+    × Progress (nodeCount network) (WalkBack network) (RelaxedBelow (WalkLink network) k) distances₀ distances changes
+
+abbrev μ-loop : tie.MeasureT-loop
+μ-loop network distances₀ m changes₀ k₀ distances changes k = m - k
+
+two-requires : tie.Need-two-requires Inv-loop μ-loop
+two-requires c κs = c .before .before .pre .sound .long
+
+loop-holds : tie.Need-loop-holds Inv-loop μ-loop
+loop-holds c = (omega arith, omega arith, progress-none (λ i h. absurd (omega arith)))
+
+relax-walk-requires : tie.Need-relax-walk-requires Inv-loop μ-loop
+relax-walk-requires c κs =
+    let lent = c .before .before .before .before .before .before .pre in (
+      omega arith,
+      record {
+        sound = lent .sound;
+        places = omega (arith, relaxing-kept (c .before .before .loop .inv .2 .relaxing) .size);
+      },
+    )
+
+add-changes : tie.Need-add-changes Inv-loop μ-loop
+add-changes c = search needs
+
+add-k : tie.Need-add-k Inv-loop μ-loop
+add-k c = search needs
+
+loop-less : tie.Need-loop-less Inv-loop μ-loop
+loop-less c = search needs
+
+loop-again : tie.Need-loop-again Inv-loop μ-loop
+loop-again c = (
+  omega arith,
+  omega arith,
+  next-link (c .before .before .before .before .before .loop .inv .2) (c .before .before .relax-walk .ensures .1),
+)
+
+same-length : tie.Need-same-length Inv-loop μ-loop
+same-length c = relaxing-kept (c .before .loop .inv .2 .relaxing) .size
+
+returns : tie.Need-returns Inv-loop μ-loop
+returns c =
+    let all : c .before .loop .k ≡ linkCount (c .before .before .before .before .before .args .network .now) = omega arith in
+    rw all at (c .before .loop .inv .2)
+
+pub walk-round-spec : {M : Type 1} → statement M
+walk-round-spec =
+    tie.close
+    (tie.spec
+    Inv-loop
+    μ-loop
+    two-requires
+    loop-holds
+    relax-walk-requires
+    add-changes
+    add-k
+    loop-less
+    loop-again
+    same-length
+    returns)
