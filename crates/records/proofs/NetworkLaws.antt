@@ -2,7 +2,7 @@
 use Prim.Native.Nat.{ℕ, _+_, _*_, _≤_, _<_}
 use native.Mathlib.Omega.{arith}
 use native.Mathlib.Nat.{add-sub-cancel-left}
-use mathlib.Core.Path.{_≡_, refl}
+use mathlib.Core.Path.{_≡_, refl, sym, _∙_}
 use mathlib.Core.Bool.{true, false}
 use mathlib.Core.List.{List}
 use lib.ListN.{length}
@@ -11,6 +11,7 @@ use denote.Ref.{RefT}
 use borrow.Rule.Slice.PartAt.{slPart}
 use Rattle.rules.specs.Checks.{firstOf, refuse, outside, beside}
 use Rattle.rules.specs.Network.{version, statedLength, openingChecks, nodeCount, linkCount, linkStart, sizeChecks, networkVerdict, networkOf, SoundNetwork, Part}
+use Rattle.rules.specs.declared.NetworkRead.{NetworkRead}
 use Rattle.rules.specs.declared.Verdict.{Verdict}
 use Rattle.rules.specs.declared.Verdict.the-variants.{Accepted, Refused}
 use Rattle.rules.proofs.SoundNetworkLaws.{network-sound}
@@ -75,3 +76,21 @@ part-of whole start size name =
       place = refl;
       contents = rw (add-sub-cancel-left start size);
     }
+
+-- what a read network says: its verdict, and beside an accepted one its numbers
+module _ (s : List ℕ) {r : NetworkRead} (is : r ≡ networkOf s) where
+  pub read-verdict : r .verdict ≡ networkVerdict s
+  unfolding networkOf
+  read-verdict = rw is
+
+  module _ (accepted : r .verdict ≡ Accepted) where
+    pub read-accepted : networkVerdict s ≡ Accepted
+    read-accepted = sym read-verdict ∙ accepted
+
+    pub read-n : r .n ≡ nodeCount s
+    unfolding networkOf
+    read-n = rw (is, read-accepted)
+
+    pub read-m : r .m ≡ linkCount s
+    unfolding networkOf
+    read-m = rw (is, read-accepted)

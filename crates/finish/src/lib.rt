@@ -1,0 +1,1 @@
+// Finishes of a plan and their packed sums: definitions and laws, no code.

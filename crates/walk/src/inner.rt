@@ -1,0 +1,32 @@
+// Walking in a room that is known to be large enough: the whole of it, or a row of the search's distances.
+use records::inner::two;
+use spread::inner::spread_walks;
+ghost use Prim.Native.Nat.{_<_, _≤_};
+ghost use mathlib.Core.Path.{_≡_};
+ghost use lib.ListN.{length};
+ghost use Rattle.rules.specs.Network.{nodeCount};
+ghost use Rattle.spread.specs.Walking.{Lent};
+ghost use Rattle.walk.specs.Row.{Row, cleared};
+
+// Fills a place for each node with its walking distance from `start`.
+pub fn walk_from(network: &[u8], start: usize, distances: &mut [u32])
+    requires { ⌜ (start < nodeCount (now network)) × Lent (now network) (now distances) ⌝ }
+    ensures { λ _. ⌜ Row (now (network .entry)) start (now (distances .entry)) (now (distances .exit)) ⌝ }
+{
+    let n = two(network, 5);
+    clear(distances, n);
+    distances[start] = 0;
+    spread_walks(network, distances);
+}
+
+// Puts none into the first n places.
+fn clear(distances: &mut [u32], n: usize)
+    requires { ⌜ n ≤ length (now distances) ⌝ }
+    ensures { λ _. ⌜ now (distances .exit) ≡ cleared n (now (distances .entry)) ⌝ }
+{
+    let mut v = 0;
+    while v < n {
+        distances[v] = 4294967295;
+        v += 1;
+    }
+}
