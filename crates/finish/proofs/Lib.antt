@@ -1,0 +1,2 @@
+-- Laws of the sets of riders.
+pub mod Sets
