@@ -1,2 +1,3 @@
 -- Laws of the sets of riders.
 pub mod Sets
+pub mod Packing

@@ -1,10 +1,19 @@
--- Cost and steps of a finish, packed into one number.
+-- Cost and steps of a finish, packed into one number, and packed sums as least sums over arcs.
 use Prim.Native.Nat.{ℕ, _+_, _*_}
 use mathlib.Core.Path.{_≡_}
+use mathlib.Core.Logic.{_⊎_}
 use mathlib.Core.List.{List}
 use lib.ListN.{length}
-use Rattle.rules.specs.Plans.{Finish}
+use Rattle.rules.specs.Plans.{Finish, Has, without}
+use Rattle.rules.specs.Request.{riderWeightOf}
+use Rattle.rules.specs.Routes.{Drivable, RiderWalks}
 use Rattle.rules.specs.declared.Request.{Request}
+use Rattle.least.specs.Trips.{Arcs, Inits}
+use Rattle.least.specs.Walking.{Linked}
+
+-- What one step takes that costs so much.
+abbrev pub packedStep : ℕ → ℕ
+packedStep cost = 4096 * cost + 1
 
 -- x is 4,096 × cost + steps of a finish from v that meets exactly R.
 pub record Packed (network : List ℕ) (q : Request) (R v x : ℕ) : Type 0 where
@@ -12,3 +21,25 @@ pub record Packed (network : List ℕ) (q : Request) (R v x : ℕ) : Type 0 wher
   pub cost : ℕ
   pub finishes : Finish network q R v steps cost
   pub packs : x ≡ 4096 * cost + length steps
+
+-- To drive link k from v to x takes w.
+pub record DriveLink (network : List ℕ) (q : Request) (k v x w : ℕ) : Type 0 where
+  pub cost : ℕ
+  pub leads : Drivable network k v x cost
+  pub packs : w ≡ packedStep (q .weight * cost)
+
+abbrev pub DriveArc : List ℕ → Request → Arcs
+DriveArc network q = Linked (DriveLink network q)
+
+-- To meet rider j of R at v, and then to finish from there, takes x.
+pub record Met (network : List ℕ) (q : Request) (R v j x : ℕ) : Type 0 where
+  pub distance : ℕ
+  pub rest : ℕ
+  pub has : Has R j
+  pub walks : RiderWalks network q j v distance
+  pub finishes : Packed network q (without R j) v rest
+  pub packs : x ≡ packedStep (riderWeightOf q j * distance) + rest
+
+-- The finishes from v that don't start by driving: there is nothing left to do, or a rider is met.
+abbrev pub Ends : List ℕ → Request → ℕ → Inits
+Ends network q R v x = ((R ≡ 0) × (v ≡ q .target) × (x ≡ 0)) ⊎ ((j : ℕ) × Met network q R v j x)
