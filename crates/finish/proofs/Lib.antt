@@ -1,3 +1,4 @@
 -- Laws of the sets of riders.
 pub mod Sets
 pub mod Packing
+pub mod Shortening
