@@ -2,3 +2,4 @@
 pub mod Sets
 pub mod Packing
 pub mod Shortening
+pub mod Bounds

@@ -1,5 +1,5 @@
 -- Cost and steps of a finish, packed into one number, and packed sums as least sums over arcs.
-use Prim.Native.Nat.{ℕ, _+_, _*_}
+use Prim.Native.Nat.{ℕ, _+_, _*_, _/_, _%_, _<_}
 use mathlib.Core.Path.{_≡_}
 use mathlib.Core.Logic.{_⊎_}
 use mathlib.Core.List.{List}
@@ -7,6 +7,7 @@ use lib.ListN.{length}
 use Rattle.rules.specs.Plans.{Finish, Has, without}
 use Rattle.rules.specs.Request.{riderWeightOf}
 use Rattle.rules.specs.Routes.{Drivable, RiderWalks}
+use Rattle.rules.specs.Rooms.{noFinish}
 use Rattle.rules.specs.declared.Request.{Request}
 use Rattle.least.specs.Trips.{Arcs, Inits}
 use Rattle.least.specs.Walking.{Linked}
@@ -43,3 +44,9 @@ pub record Met (network : List ℕ) (q : Request) (R v j x : ℕ) : Type 0 where
 -- The finishes from v that don't start by driving: there is nothing left to do, or a rider is met.
 abbrev pub Ends : List ℕ → Request → ℕ → Inits
 Ends network q R v x = ((R ≡ 0) × (v ≡ q .target) × (x ≡ 0)) ⊎ ((j : ℕ) × Met network q R v j x)
+
+-- A place below the cap gives cost and number of steps back.
+pub record Unpacks (place : ℕ) (steps : List ℕ) (cost : ℕ) : Type 0 where
+  pub below : place < noFinish
+  pub quotient : place / 4096 ≡ cost
+  pub remainder : place % 4096 ≡ length steps
