@@ -1,6 +1,6 @@
 -- How large the numbers of a best finish are, and what the place of the table says of it.
-use Prim.Native.Nat.{ℕ, _+_, _-_, _*_, _/_, _%_, _^_, _≤_, _<_}
-use mathlib.Core.Path.{_≡_}
+use Prim.Native.Nat.{ℕ, _+_, _-_, _*_, _^_, _≤_, _<_}
+use mathlib.Core.Path.{_≡_, refl}
 use mathlib.Core.Logic.{inl, inr}
 use mathlib.Core.List.{List}
 use native.Mathlib.Nat.{mul-le-mul}
@@ -15,11 +15,12 @@ use Rattle.rules.specs.Walks.{WalkingDistance}
 use Rattle.rules.specs.Plans.{Finish, arrive, meet, drive, Best, RightPlan}
 use Rattle.rules.specs.Rooms.{HoldsFinish, noFinish, stepPlaces}
 use Rattle.rules.specs.declared.Request.{Request}
+use Rattle.rules.proofs.PlanLaws.{holds-finish-unique}
 use Rattle.least.specs.Least.{Least}
 use Rattle.least.specs.Walking.{EndsBelow, WalkTrip}
 use Rattle.least.proofs.Walking.{inside, walk-trip, trip-walk}
 use Rattle.least.proofs.Shortening.{bounded}
-use Rattle.finish.specs.Short.{ShortFinish, Bounded, mostCost}
+use Rattle.finish.specs.Short.{Bounded}
 use Rattle.finish.specs.Packed.{Packed, Unpacks}
 use Rattle.finish.proofs.Sets.{has-below, ones-without, without-less}
 use Rattle.finish.proofs.Packing.{packed}
@@ -107,5 +108,10 @@ module _ {network : List ℕ} (sound : SoundNetwork network) where
           }
       holds-least (inr f) = record { capped = omega arith; lowest = λ d p. absurd (f .0 _ _ (p .finishes)); met = λ g. absurd (omega arith) }
 
+      -- A least packed sum is what every best finish packs to.
+      pub best-packs : {steps : List ℕ} {cost place : ℕ} → Least noFinish (Packed network q R v) place → Best network q R v steps cost → place ≡ 4096 * cost + length steps
+      best-packs {steps} {cost} l best = holds-finish-unique (least-holds l) (inl (record { steps = steps; cost = cost; best = best; packs = refl }))
+
+    -- "No right plan has more than l + (l+1)(n-1) steps, at most 4,095. No right plan costs more than 50,231,811,000".
     pub right-plan-bounded : {steps : List ℕ} {cost : ℕ} → RightPlan network q steps cost → Bounded (nodeCount network) (q .count) steps cost
     right-plan-bounded right = rw ones-ones at (best-bounded (omega (arith, pow-pos (q .count))) (value .starts) (right .best))

@@ -8,7 +8,7 @@ use lib.ListN.{length}
 use Rattle.rules.specs.Plans.{Finish, arrive, meet, drive, driveStep}
 use Rattle.rules.specs.declared.Request.{Request}
 use Rattle.least.specs.Trips.{Trip, done, step}
-use Rattle.finish.specs.Packed.{packedStep, Packed, DriveArc, Met, Ends}
+use Rattle.finish.specs.Packed.{packedStep, Packed, DriveArc, Ends}
 
 module _ {network : List ℕ} {q : Request} where
   pub packed : {R v cost : ℕ} {steps : List ℕ} → Finish network q R v steps cost → Packed network q R v (4096 * cost + length steps)

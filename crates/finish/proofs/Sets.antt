@@ -20,19 +20,19 @@ half-has R j h = rw halved at h
 has-half : (R j : ℕ) → Has (R / 2) j → Has R (suc j)
 has-half R j h = rw halved h
 
-pub has-least : (R j : ℕ) → Has R j → 2 ^ j ≤ R
-has-least R zero h = omega arith
-has-least R (suc j) h = omega (arith, has-least (R / 2) j (half-has R j h), pow-succ' 2 j)
+pub has-le : (R j : ℕ) → Has R j → 2 ^ j ≤ R
+has-le R zero h = omega arith
+has-le R (suc j) h = omega (arith, has-le (R / 2) j (half-has R j h), pow-succ' 2 j)
 
 pub has-below : (R j l : ℕ) → R < 2 ^ l → Has R j → j < l
-has-below R j l small h = elim (decLt j l) [ yes g ↦ g | no g ↦ absurd (omega (arith, has-least R j h, pow-mono {i = l} {j = j} (omega arith))) ]
+has-below R j l small h = elim (decLt j l) [ yes g ↦ g | no g ↦ absurd (omega (arith, has-le R j h, pow-mono {i = l} {j = j} (omega arith))) ]
 
 pub without-less : (R j : ℕ) → Has R j → without R j < R
-without-less R j h = omega (arith, has-least R j h, pow-pos j)
+without-less R j h = omega (arith, has-le R j h, pow-pos j)
 
 -- Without a rider, the half loses the rider before.
 half-without : (R j : ℕ) → Has R (suc j) → without R (suc j) / 2 ≡ without (R / 2) j
-half-without R j h = omega (arith, has-least (R / 2) j (half-has R j h), pow-succ' 2 j)
+half-without R j h = omega (arith, has-le (R / 2) j (half-has R j h), pow-succ' 2 j)
 
 half-without-first : (R : ℕ) → Has R 0 → without R 0 / 2 ≡ R / 2
 half-without-first R h = omega arith
@@ -40,7 +40,7 @@ half-without-first R h = omega arith
 pub ones-without : (R j : ℕ) → Has R j → ones (without R j) + 1 ≡ ones R
 ones-without R zero h = omega (arith, ones-step R, rw (half-without-first R h) at (ones-step (without R 0)))
 ones-without R (suc j) h =
-    omega (arith, has-least R (suc j) h, pow-succ' 2 j, ones-step R, rw (half-without R j h) at (ones-step (without R (suc j))), ones-without (R / 2) j (half-has R j h))
+    omega (arith, has-le R (suc j) h, pow-succ' 2 j, ones-step R, rw (half-without R j h) at (ones-step (without R (suc j))), ones-without (R / 2) j (half-has R j h))
 
 own-digit : (R j : ℕ) → Has R j → Has (without R j) j → ⊥
 own-digit R zero h g = omega arith
@@ -49,7 +49,7 @@ own-digit R (suc j) h g = own-digit (R / 2) j (half-has R j h) (rw (halved, half
 other-digit : (R j i : ℕ) → Has R j → i ≢ j → without R j / 2 ^ i % 2 ≡ R / 2 ^ i % 2
 other-digit R zero zero h g = absurd (g refl)
 other-digit R zero (suc i) h g = simp (halved, half-without-first R h)
-other-digit R (suc j) zero h g = omega (arith, has-least R (suc j) h, pow-succ' 2 j)
+other-digit R (suc j) zero h g = omega (arith, has-le R (suc j) h, pow-succ' 2 j)
 other-digit R (suc j) (suc i) h g = simp (halved, half-without R j h) (other-digit (R / 2) j i (half-has R j h) (λ e. g (ap suc e)))
 
 -- The set without j has exactly the others.

@@ -1,7 +1,7 @@
 -- Every finish has one of few steps.
 use Prim.Native.Nat.{ℕ, _+_, _-_, _*_, _≤_, _<_}
 use mathlib.Core.Path.{_≡_, refl}
-use mathlib.Core.List.{List, [], _∷_}
+use mathlib.Core.List.{List, _∷_}
 use native.Mathlib.Nat.{add-mul, le-refl}
 use native.Mathlib.Omega.{arith}
 use lib.Count.{ones}
@@ -9,7 +9,7 @@ use lib.ListN.{length}
 use Rattle.rules.specs.Plans.{Finish, arrive, meet, drive, driveStep}
 use Rattle.rules.specs.Routes.{Drivable}
 use Rattle.rules.specs.declared.Request.{Request}
-use Rattle.least.specs.Trips.{Arcs, Trip, done, step, arcCount, Inside}
+use Rattle.least.specs.Trips.{Trip, done, step, arcCount, Inside}
 use Rattle.least.specs.Walking.{EndsBelow}
 use Rattle.least.proofs.Shortening.{shortened}
 use Rattle.finish.specs.Short.{ShortFinish}

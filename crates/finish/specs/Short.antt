@@ -1,5 +1,5 @@
 -- Finishes of few steps.
-use Prim.Native.Nat.{ℕ, _+_, _-_, _*_, _≤_, _<_}
+use Prim.Native.Nat.{ℕ, _≤_}
 use mathlib.Core.List.{List}
 use lib.Count.{ones}
 use lib.ListN.{length}
@@ -16,9 +16,9 @@ pub record ShortFinish (network : List ℕ) (q : Request) (n R v most count : �
   pub fewer : length steps ≤ count
   pub short : length steps ≤ stepPlaces n (ones R)
 
--- "No right plan costs more than 50,231,811,000": 8 stretches of 511 drives at most, and 7 walks of 511 links, at weight 100.
+-- "No right plan costs more than 50,231,811,000": 8 * 511 * 100 * 65,534 for driving and 7 * 100 * 511 * 65,534 for walking.
 abbrev pub mostCost : ℕ
-mostCost = 8 * (511 * (100 * 65534)) + 7 * (100 * (511 * 65534))
+mostCost = 50231811000
 
 -- The steps and the cost of a finish that meets l riders, within the bounds of a network of n nodes.
 pub record Bounded (n l : ℕ) (steps : List ℕ) (cost : ℕ) : Type 0 where
