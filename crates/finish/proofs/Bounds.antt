@@ -23,6 +23,7 @@ use Rattle.least.proofs.Shortening.{bounded}
 use Rattle.finish.specs.Short.{Bounded}
 use Rattle.finish.specs.Packed.{Packed, Unpacks}
 use Rattle.finish.proofs.Sets.{has-below, ones-without, without-less}
+use Rattle.finish.proofs.LeastLaws.{least-none}
 use Rattle.finish.proofs.Packing.{packed}
 use Rattle.finish.proofs.Shortening.{shorter}
 
@@ -71,7 +72,8 @@ module _ {network : List ℕ} (sound : SoundNetwork network) where
       undercuts l f =
           let s = shorter ends-below h f in
           let b = bound (s .finishes) (s .short) in
-          (omega (arith, l .lowest _ (packed (s .finishes))), omega (arith, l .lowest _ (packed (s .finishes))))
+          let least = l .lowest _ (packed (s .finishes)) in
+          (omega arith, omega arith)
 
       -- A place with the least packed sum holds the best finish. Each finish has a rival of no larger cost and fewer than 4,096 steps, and the packed sums of such rivals are in the order of their costs. If the place is the cap there is no finish, since its rival's packed sum would be below the cap.
       pub least-holds : {place : ℕ} → Least noFinish (Packed network q R v) place → HoldsFinish network q R v place
@@ -106,7 +108,7 @@ module _ {network : List ℕ} (sound : SoundNetwork network) where
             lowest = λ d p. omega (arith, packs-least (f .best) (p .finishes));
             met = λ g. rw (f .packs) (packed (f .best .finishes));
           }
-      holds-least (inr f) = record { capped = omega arith; lowest = λ d p. absurd (f .0 _ _ (p .finishes)); met = λ g. absurd (omega arith) }
+      holds-least (inr f) = rw (f .1) (least-none (λ x p. f .0 _ _ (p .finishes)))
 
       -- A least packed sum is what every best finish packs to.
       pub best-packs : {steps : List ℕ} {cost place : ℕ} → Least noFinish (Packed network q R v) place → Best network q R v steps cost → place ≡ 4096 * cost + length steps

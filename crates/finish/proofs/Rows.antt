@@ -6,7 +6,6 @@ use mathlib.Core.List.{List}
 use native.Mathlib.Decide.{ℕ-discrete}
 use native.Mathlib.Omega.{arith}
 use lib.ListN.{getD}
-use lib.Pow.{pow-pos}
 use Rattle.rules.specs.Network.{SoundNetwork, nodeCount}
 use Rattle.rules.specs.Request.{riderNodeOf, riderWeightOf}
 use Rattle.rules.specs.Walks.{HoldsDistance, noDistance}
@@ -22,7 +21,8 @@ use Rattle.least.proofs.Least.{least-iff, least-min}
 use Rattle.least.proofs.Trips.{compose}
 use Rattle.finish.specs.Packed.{packedStep, Packed, DriveArc, Met, Ends}
 use Rattle.finish.specs.Rows.{MetSeen, Outside}
-use Rattle.finish.proofs.Sets.{has-le, without-others}
+use Rattle.finish.proofs.Sets.{none-has, without-others}
+use Rattle.finish.proofs.LeastLaws.{least-none}
 use Rattle.finish.proofs.Packing.{packed-trip}
 use Rattle.finish.proofs.Bounds.{walking-bounded}
 
@@ -38,14 +38,7 @@ module _ {network : List ℕ} {q : Request} where
   pub arrived-least : {v value : ℕ} → (v ≡ q .target → value ≡ 0) → (v ≢ q .target → value ≡ noFinish) → Least noFinish (Ends network q 0 v) value
   arrived-least {v} {value} here there = elim (ℕ-discrete v (q .target)) [
     | yes e ↦ (let free = here e in record { capped = omega arith; lowest = λ x i. omega arith; met = λ h. inl (refl, e, free) })
-    | no g ↦ (
-        let none = there g in
-        record {
-          capped = omega arith;
-          lowest = λ x. ⊎-elim (λ i. absurd (g (i .1))) (λ m. absurd (omega (arith, has-le 0 (m .0) (m .1 .has), pow-pos (m .0))));
-          met = λ h. absurd (omega arith);
-        }
-        )
+    | no g ↦ rw (there g) (least-none (λ x. ⊎-elim (λ i. g (i .1)) (λ m. none-has (m .0) (m .1 .has))))
   ]
 
   module _ {R v : ℕ} where
@@ -58,7 +51,7 @@ module _ {network : List ℕ} {q : Request} where
         }
 
     pub none-seen : {Seen : ℕ → Type 0} → ((j : ℕ) → Has R j → Seen j → ⊥) → Least noFinish (MetSeen network q R Seen v) noFinish
-    none-seen out = record { capped = omega arith; lowest = λ x m. absurd (out (m .0) (m .2 .has) (m .1)); met = λ h. absurd (omega arith) }
+    none-seen out = least-none (λ x m. out (m .0) (m .2 .has) (m .1))
 
     pub all-seen : {Seen : ℕ → Type 0} {t : ℕ} → 0 < R → ((j : ℕ) → Has R j → Seen j) → Least noFinish (MetSeen network q R Seen v) t → Least noFinish (Ends network q R v) t
     all-seen some seen = least-iff (λ x. (
@@ -83,7 +76,9 @@ module _ {network : List ℕ} {q : Request} where
       -- A rider that cannot walk to v is no choice.
       pub rider-strays : {d t : ℕ} → SoundNetwork network → v < nodeCount network → HoldsDistance network (riderNodeOf q j) v d → d ≡ noDistance → Least noFinish (MetSeen network q R Seen v) t → Least noFinish (MetSeen network q R More v) t
       rider-strays sound h (inl walks) none s = absurd (omega (arith, walking-bounded sound h walks))
-      rider-strays sound h (inr away) none s = least-iff (λ x. (λ m. seen-more x .0 (inl m), λ m. ⊎-elim (λ s. s) (λ m. absurd (away .0 _ _ (m .walks .walked))) (seen-more x .1 m))) s
+      rider-strays {t = t} sound h (inr away) none s =
+          let same : min t noFinish ≡ t = omega arith in
+          rw same at (least-iff seen-more (least-min s (least-none (λ x m. away .0 _ _ (m .walks .walked)))))
 
   pub drives-inside : SoundNetwork network → Inside (nodeCount network) (DriveArc network q)
   drives-inside sound u v w h a = omega (arith, sound .ends (a .0) (a .1 .leads .exists))

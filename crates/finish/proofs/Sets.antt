@@ -24,6 +24,9 @@ pub has-le : (R j : ℕ) → Has R j → 2 ^ j ≤ R
 has-le R zero h = omega arith
 has-le R (suc j) h = omega (arith, has-le (R / 2) j (half-has R j h), pow-succ' 2 j)
 
+pub none-has : (j : ℕ) → Has 0 j → ⊥
+none-has j h = omega (arith, has-le 0 j h, pow-pos j)
+
 pub has-below : (R j l : ℕ) → R < 2 ^ l → Has R j → j < l
 has-below R j l small h = elim (decLt j l) [ yes g ↦ g | no g ↦ absurd (omega (arith, has-le R j h, pow-mono {i = l} {j = j} (omega arith))) ]
 
@@ -78,10 +81,10 @@ half-lowest R j even low = record { has = has-half R j (low .has); first = first
     first (suc i) l h = low .first i (omega arith) (half-has R i h)
 
 -- Trailing zeros count the riders below the lowest.
-pub lowest : (k R : ℕ) → 0 < R → R < 2 ^ k → Lowest R (trailingZeros k R)
+pub lowest-rider : (k R : ℕ) → 0 < R → R < 2 ^ k → Lowest R (trailingZeros k R)
 unfolding trailingZeros
-lowest zero R some small = absurd (omega arith)
-lowest (suc k) R some small = go (R % 2) refl (λ more. lowest k (R / 2) more (omega (arith, pow-succ' 2 k)))
+lowest-rider zero R some small = absurd (omega arith)
+lowest-rider (suc k) R some small = go (R % 2) refl (λ more. lowest-rider k (R / 2) more (omega (arith, pow-succ' 2 k)))
   where
     go : (digit : ℕ) → R % 2 ≡ digit → (0 < R / 2 → Lowest (R / 2) (trailingZeros k (R / 2))) → Lowest R (under digit (trailingZeros k (R / 2)))
     go zero even low = half-lowest R _ even (low (omega arith))
