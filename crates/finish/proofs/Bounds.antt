@@ -68,6 +68,7 @@ module _ {network : List ℕ} (sound : SoundNetwork network) where
       pub unpacks : {steps : List ℕ} {cost place : ℕ} → Best network q R v steps cost → place ≡ 4096 * cost + length steps → Unpacks place steps cost
       unpacks best packs = let b = best-bounded best in record { below = omega arith; quotient = omega arith; remainder = omega arith }
 
+      -- The shorter finish packs into a number below the cap.
       undercuts : {steps : List ℕ} {cost place : ℕ} → Least noFinish (Packed network q R v) place → Finish network q R v steps cost → (place ≤ 4096 * cost + 4095) × (place < noFinish)
       undercuts l f =
           let s = shorter ends-below h f in
@@ -90,6 +91,7 @@ module _ {network : List ℕ} (sound : SoundNetwork network) where
         | no g ↦ inr ((λ steps cost f. omega (arith, undercuts l f)), omega arith)
       ]
 
+      -- A best finish packs into a number that is at most any other's: its cost is lower, or it is the same and its steps are fewer.
       packs-least : {steps others : List ℕ} {cost c : ℕ} → Best network q R v steps cost → Finish network q R v others c → 4096 * cost + length steps ≤ 4096 * c + length others
       packs-least {others = others} {cost} {c} best f =
           let b = best-bounded best in

@@ -36,7 +36,7 @@ outside-more left j has i = (
 module _ {network : List ℕ} {q : Request} where
   -- Row 0: 0 at the target, and none elsewhere.
   pub arrived-least : {v value : ℕ} → (v ≡ q .target → value ≡ 0) → (v ≢ q .target → value ≡ noFinish) → Least noFinish (Ends network q 0 v) value
-  arrived-least {v} {value} here there = elim (ℕ-discrete v (q .target)) [
+  arrived-least {v} here there = elim (ℕ-discrete v (q .target)) [
     | yes e ↦ (let free = here e in record { capped = omega arith; lowest = λ x i. omega arith; met = λ h. inl (refl, e, free) })
     | no g ↦ rw (there g) (least-none (λ x. ⊎-elim (λ i. g (i .1)) (λ m. none-has (m .0) (m .1 .has))))
   ]
@@ -50,9 +50,11 @@ module _ {network : List ℕ} {q : Request} where
           met = λ h. record { distance = d; rest = rest; has = has; walks = walks; finishes = l .met (omega arith); packs = omega arith };
         }
 
+    -- Before a rider is seen there is no choice.
     pub none-seen : {Seen : ℕ → Type 0} → ((j : ℕ) → Has R j → Seen j → ⊥) → Least noFinish (MetSeen network q R Seen v) noFinish
     none-seen out = least-none (λ x m. out (m .0) (m .2 .has) (m .1))
 
+    -- Once all riders of R are seen, and R has one, every end is a choice.
     pub all-seen : {Seen : ℕ → Type 0} {t : ℕ} → 0 < R → ((j : ℕ) → Has R j → Seen j) → Least noFinish (MetSeen network q R Seen v) t → Least noFinish (Ends network q R v) t
     all-seen some seen = least-iff (λ x. (
       λ m. inr (m .0, m .2),
