@@ -91,7 +91,7 @@ module _ {network : List ℕ} (sound : SoundNetwork network) where
         | no g ↦ inr ((λ steps cost f. omega (arith, undercuts l f)), omega arith)
       ]
 
-      -- A best finish packs into a number that is at most any other's: its cost is lower, or it is the same and its steps are fewer.
+      -- A best finish packs into a number that is at most any other's: its cost is lower, or the same with no more steps.
       packs-least : {steps others : List ℕ} {cost c : ℕ} → Best network q R v steps cost → Finish network q R v others c → 4096 * cost + length steps ≤ 4096 * c + length others
       packs-least {others = others} {cost} {c} best f =
           let b = best-bounded best in
