@@ -1,13 +1,14 @@
 -- The checks of a request record, test by test in the order of the table, and its seven rider places. Each number that the code reads comes with what it is read from.
 use Prim.Native.Nat.{ℕ, zero, suc, _+_, _*_, _≤_, _<_}
 use native.Mathlib.Omega.{arith}
-use mathlib.Core.Path.{_≡_, refl}
+use mathlib.Core.Path.{_≡_, refl, sym, _∙_}
 use mathlib.Core.Bool.{true, false}
 use mathlib.Core.List.{List}
 use lib.ListN.{length, set}
 use borrow.Author.Tests.{lt-ltb, le-ltb, eq-eqb, ne-eqb}
 use Rattle.rules.specs.Checks.{firstOf, refuse}
-use Rattle.rules.specs.Request.{riderCount, riderStart, countChecks, sevenPlaces}
+use Rattle.rules.specs.Request.{riderCount, riderStart, countChecks, sevenPlaces, requestVerdict, requestValue, requestOf}
+use Rattle.rules.specs.declared.RequestRead.{RequestRead}
 use Rattle.rules.specs.declared.Verdict.the-variants.{Accepted, Refused}
 
 module _ (s : List ℕ) {l : ℕ} (reads-l : l ≡ riderCount s) where
@@ -35,3 +36,17 @@ place-more value (suc (suc (suc (suc zero)))) h = refl
 place-more value (suc (suc (suc (suc (suc zero))))) h = refl
 place-more value (suc (suc (suc (suc (suc (suc zero)))))) h = refl
 place-more value (suc (suc (suc (suc (suc (suc (suc j))))))) h = absurd (omega arith)
+
+-- what a read request says: its verdict, and beside an accepted one its value
+module _ (network s : List ℕ) {r : RequestRead} (is : r ≡ requestOf network s) where
+  pub request-verdict : r .verdict ≡ requestVerdict network s
+  unfolding requestOf
+  request-verdict = rw is
+
+  module _ (accepted : r .verdict ≡ Accepted) where
+    pub request-accepted : requestVerdict network s ≡ Accepted
+    request-accepted = sym request-verdict ∙ accepted
+
+    pub request-value : r .request ≡ requestValue s
+    unfolding requestOf
+    request-value = rw (is, request-accepted)

@@ -1,0 +1,105 @@
+use borrow.Author.Needs.{needs}
+use Prim.Native.Nat.{_-_}
+use native.Mathlib.Omega.{arith}
+use mathlib.Core.Path.{_≡_, refl, sym, _∙_}
+use lib.ListN.{length}
+use Rattle.rules.specs.Routes.{nodeAt, routeLinkChecks}
+use Rattle.rules.proofs.Order.{Passed, passed-none, passed-more, passed-until, passed-all}
+use Rattle.price.proofs.RouteLaws.{node-next, driven, route-32, route-link, route-36, route-driven}
+use Rattle.price.proofs.route.route_verdict.Statement.{statement}
+use Rattle.price.proofs.route.route_verdict.Tie as tie
+
+abbrev Inv-loop : tie.InvT-loop
+Inv-loop network q route node₀ i₀ node i = Passed (routeLinkChecks network q route) (length route) i × (node ≡ nodeAt network (q .source) route i)
+
+abbrev μ-loop : tie.MeasureT-loop
+μ-loop network q route node₀ i₀ node i = length route - i
+
+refused-requires : tie.Need-refused-requires Inv-loop μ-loop
+refused-requires c κs = search needs
+
+returns : tie.Need-returns Inv-loop μ-loop
+returns c = c .refused .ensures ∙ sym (route-32 _ _ _ (c .before .if1 .taken))
+
+loop-holds : tie.Need-loop-holds Inv-loop μ-loop
+unfolding nodeAt
+loop-holds c = (passed-none _ _, refl)
+
+link-at-requires : tie.Need-link-at-requires Inv-loop μ-loop
+link-at-requires c κs = search needs
+
+link-verdict-requires : tie.Need-link-verdict-requires Inv-loop μ-loop
+link-verdict-requires c κs = search needs
+
+enum-told : tie.Need-enum-told Inv-loop μ-loop
+enum-told c = search needs
+
+enum-told-2 : tie.Need-enum-told-2 Inv-loop μ-loop
+enum-told-2 c = search needs
+
+returns-2 : tie.Need-returns-2 Inv-loop μ-loop
+returns-2 c =
+    let at = c .before .before .before .before .before .loop in
+    c .enum-told2 .given .1
+    ∙ sym
+    (route-link _ _ _ (c .before .before .before .before .before .before .if1 .left) (c .enum-told2 .given .0 .0)
+    (passed-until _ _ (at .i) (at .inv .0) _ (c .before .before .before .before .loop-test .taken)
+    (rw (c .before .before .before .link-at .ensures, at .inv .1) at (sym (c .before .before .link-verdict .ensures) ∙ c .enum-told2 .given .1))))
+
+to-requires : tie.Need-to-requires Inv-loop μ-loop
+to-requires c κs =
+    omega (arith, c .before .before .before .before .before .before .before .before .before .pre .whole, driven _ _ _ _ (sym (c .before .before .link-verdict .ensures) ∙ c .enum-told .given .1) .exists)
+
+add-i : tie.Need-add-i Inv-loop μ-loop
+add-i c = search needs
+
+loop-less : tie.Need-loop-less Inv-loop μ-loop
+loop-less c = search needs
+
+loop-again : tie.Need-loop-again Inv-loop μ-loop
+loop-again c =
+    let at = c .before .before .before .before .before .before .loop in (
+      passed-more _ _ (at .i) (at .inv .0) (c .before .before .before .before .before .loop-test .taken)
+          (rw (c .before .before .before .before .link-at .ensures, at .inv .1) at (sym (c .before .before .before .link-verdict .ensures) ∙ c .before .enum-told .given .1)),
+      rw (c .to .ensures .value, c .before .before .before .before .link-at .ensures) (sym (node-next _ _ _ (at .i) (c .before .before .before .before .before .loop-test .taken))),
+    )
+
+refused-requires-2 : tie.Need-refused-requires-2 Inv-loop μ-loop
+refused-requires-2 c κs = search needs
+
+returns-3 : tie.Need-returns-3 Inv-loop μ-loop
+returns-3 c =
+    let all : c .before .before .before .before .loop .i ≡ length (c .before .before .before .before .before .before .before .before .args .route .now) = omega (arith, c .before .before .before .before .loop .inv .0 .within) in
+    c .refused2 .ensures
+    ∙ sym
+    (route-36 _ _ _ (c .before .before .before .before .before .if1 .left) (passed-all _ _ _ (c .before .before .before .before .loop .inv .0) (c .before .before .before .loop-test .left))
+    (rw all at (c .before .before .before .before .loop .inv .1)) (c .before .if2 .taken))
+
+returns-4 : tie.Need-returns-4 Inv-loop μ-loop
+returns-4 c =
+    let all : c .before .before .before .loop .i ≡ length (c .before .before .before .before .before .before .before .args .route .now) = omega (arith, c .before .before .before .loop .inv .0 .within) in
+    sym
+    (route-driven _ _ _ (c .before .before .before .before .if1 .left) (passed-all _ _ _ (c .before .before .before .loop .inv .0) (c .before .before .loop-test .left))
+    (rw all at (c .before .before .before .loop .inv .1)) (c .if2 .left))
+
+pub route-verdict-spec : {M : Type 1} → statement M
+route-verdict-spec =
+    tie.close
+    (tie.spec
+    Inv-loop
+    μ-loop
+    refused-requires
+    returns
+    loop-holds
+    link-at-requires
+    link-verdict-requires
+    enum-told
+    enum-told-2
+    returns-2
+    to-requires
+    add-i
+    loop-less
+    loop-again
+    refused-requires-2
+    returns-3
+    returns-4)

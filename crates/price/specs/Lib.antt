@@ -1,0 +1,3 @@
+pub mod Known
+pub mod Near
+pub mod Meetings
