@@ -1,0 +1,3 @@
+-- Laws of a route as bytes, and of the tablet's answers.
+pub mod RouteLaws
+pub mod AnswerLaws

@@ -1,0 +1,54 @@
+// The drivers' tablet: one entry for its host program in C.
+mod route;
+
+use price::inner::price_route;
+use records::read_request;
+use route::decode;
+use rules::Priced;
+use rules::Refusal;
+use rules::Verdict;
+ghost use Rattle.rules.specs.Answers.{Tablet};
+ghost use Rattle.tablet.specs.Answer.{Answered};
+
+// The price of a route handed over as bytes, two for each link, high byte first; or 2^63 plus the refusal number.
+#[no_mangle]
+pub extern "C" fn tivelgor_tablet_price(network: &[u8], request: &[u8], route: &[u8]) -> u64
+    ensures { λ r. ⌜ Tablet (now (network .entry)) (now (request .entry)) (now (route .entry)) r ⌝ }
+{
+    let answer = tablet_answer(network, request, route);
+    let Priced::Price(price) = answer else {
+        let Priced::Refused(r) = answer else {
+            return 0;
+        };
+        return 9223372036854775808 + r.number as u64;
+    };
+    price
+}
+
+// The price, or the refusal of the records, 38, or 32 to 37.
+fn tablet_answer(network: &[u8], request: &[u8], route: &[u8]) -> Priced
+    ensures { λ r. ⌜ Answered (now (network .entry)) (now (request .entry)) (now (route .entry)) r ⌝ }
+{
+    let read = read_request(network, request);
+    let verdict = read.verdict;
+    if let Verdict::Refused(r) = verdict {
+        return Priced::Refused(r);
+    }
+    if route.len() % 2 != 0 {
+        return Priced::Refused(Refusal {
+            number: 38,
+            place: 0,
+        });
+    }
+    let count = route.len() / 2;
+    if 4095 < count {
+        return Priced::Refused(Refusal {
+            number: 32,
+            place: 0,
+        });
+    }
+    let mut links = [0u16; 4095];
+    decode(route, &mut links, count);
+    let priced = price_route(network, read.request, &links[0..count]);
+    priced.answer
+}
