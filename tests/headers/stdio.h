@@ -1,0 +1,2 @@
+/* As much of the C library's header as hosts built by the gate need: the kit's compiler brings none. */
+int printf(const char *format, ...);
