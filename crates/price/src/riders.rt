@@ -35,7 +35,8 @@ pub fn meet_riders(network: &[u8], q: Request, route: &[u16], driving: u64) -> R
     let nodes = q.nodes;
     let weights = q.weights;
     let mut meetings = [0u16; 7];
-    let mut price = q.weight * driving;
+    let weight = q.weight;
+    let mut price = weight * driving;
     let mut j = 0;
     while j < q.count {
         let spot = nearest(network, nodes[j], q.source, route);

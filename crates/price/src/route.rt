@@ -55,10 +55,12 @@ fn link_verdict(network: &[u8], node: usize, k: usize, i: usize) -> Verdict
     if two(network, 7) <= k {
         return refused(33, i);
     }
-    if 65535 <= drive(network, k) {
+    let cost = drive(network, k);
+    let start = from(network, k);
+    if 65535 <= cost {
         return refused(34, i);
     }
-    if from(network, k) != node {
+    if start != node {
         return refused(35, i);
     }
     Verdict::Accepted

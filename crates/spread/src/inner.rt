@@ -43,8 +43,9 @@ fn relax_walk(network: &[u8], k: usize, distances: &mut [u32]) -> usize
     if 65535 <= cost {
         return 0;
     }
-    let near = distances[from(network, k)];
+    let start = from(network, k);
     let end = to(network, k);
+    let near = distances[start];
     let far = distances[end];
     if far <= near {
         return 0;

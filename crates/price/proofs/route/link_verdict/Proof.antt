@@ -16,14 +16,15 @@ returns c = c .refused .ensures ∙ sym (link-33 _ _ _ _ (c .before .before .two
 drive-requires : tie.Need-drive-requires
 drive-requires c κs = search needs
 
+from-requires : tie.Need-from-requires
+from-requires c κs = search needs
+
 refused-requires-2 : tie.Need-refused-requires-2
 refused-requires-2 c κs = search needs
 
 returns-2 : tie.Need-returns-2
-returns-2 c = c .refused2 .ensures ∙ sym (link-34 _ _ _ _ (c .before .before .before .before .two .ensures .value) (c .before .before .before .if1 .left) (c .before .before .drive .ensures .value) (c .before .if2 .taken))
-
-from-requires : tie.Need-from-requires
-from-requires c κs = search needs
+returns-2 c =
+    c .refused2 .ensures ∙ sym (link-34 _ _ _ _ (c .before .before .before .before .before .two .ensures .value) (c .before .before .before .before .if1 .left) (c .before .before .before .drive .ensures .value) (c .before .if2 .taken))
 
 refused-requires-3 : tie.Need-refused-requires-3
 refused-requires-3 c κs = search needs
@@ -32,11 +33,11 @@ returns-3 : tie.Need-returns-3
 returns-3 c =
     c .refused3 .ensures
     ∙ sym
-    (link-35 _ _ _ _ (c .before .before .before .before .before .before .two .ensures .value) (c .before .before .before .before .before .if1 .left) (c .before .before .before .before .drive .ensures .value) (c .before .before .before .if2 .left) (c .before .before .from .ensures .value) (c .before .if3 .taken))
+    (link-35 _ _ _ _ (c .before .before .before .before .before .before .two .ensures .value) (c .before .before .before .before .before .if1 .left) (c .before .before .before .before .drive .ensures .value) (c .before .before .if2 .left) (c .before .before .before .from .ensures .value) (c .before .if3 .taken))
 
 returns-4 : tie.Need-returns-4
 returns-4 c =
-    sym (link-driven _ _ _ _ (c .before .before .before .before .before .two .ensures .value) (c .before .before .before .before .if1 .left) (c .before .before .before .drive .ensures .value) (c .before .before .if2 .left) (c .before .from .ensures .value) (c .if3 .left))
+    sym (link-driven _ _ _ _ (c .before .before .before .before .before .two .ensures .value) (c .before .before .before .before .if1 .left) (c .before .before .before .drive .ensures .value) (c .before .if2 .left) (c .before .before .from .ensures .value) (c .if3 .left))
 
 pub link-verdict-spec : {M : Type 1} → statement M
 link-verdict-spec =
@@ -46,9 +47,9 @@ link-verdict-spec =
     refused-requires
     returns
     drive-requires
+    from-requires
     refused-requires-2
     returns-2
-    from-requires
     refused-requires-3
     returns-3
     returns-4)

@@ -14,14 +14,14 @@ returns c = (omega arith, closed-link (c .before .walk .ensures .value) (c .if1 
 from-requires : tie.Need-from-requires
 from-requires c κs = search needs
 
+to-requires : tie.Need-to-requires
+to-requires c κs = search needs
+
 mul-near : tie.Need-mul-near
 mul-near c = search needs
 
 slice-read-near : tie.Need-slice-read-near
-slice-read-near c = omega (arith, c .before .before .before .before .before .before .pre .1 .sound .starts (c .before .before .before .before .before .before .args .k) (c .before .before .before .before .before .before .pre .0))
-
-to-requires : tie.Need-to-requires
-to-requires c κs = search needs
+slice-read-near c = omega (arith, c .before .before .before .before .before .before .before .pre .1 .sound .starts (c .before .before .before .before .before .before .before .args .k) (c .before .before .before .before .before .before .before .pre .0))
 
 mul-far : tie.Need-mul-far
 mul-far c = search needs
@@ -32,7 +32,7 @@ slice-read-far c = omega (arith, c .before .before .before .before .before .befo
 returns-2 : tie.Need-returns-2
 returns-2 c = (
   omega arith,
-  no-help (c .before .before .before .before .before .before .walk .ensures .value) (c .before .before .before .before .from .ensures .value) (c .before .before .to .ensures .value) (omega arith),
+  no-help (c .before .before .before .before .before .before .walk .ensures .value) (c .before .before .before .before .from .ensures .value) (c .before .before .before .to .ensures .value) (omega arith),
 )
 
 sub-if3 : tie.Need-sub-if3
@@ -41,11 +41,11 @@ sub-if3 c = search needs
 returns-3 : tie.Need-returns-3
 returns-3 c = (
   omega arith,
-  no-help (c .before .before .before .before .before .before .before .walk .ensures .value) (c .before .before .before .before .before .from .ensures .value) (c .before .before .before .to .ensures .value) (omega arith),
+  no-help (c .before .before .before .before .before .before .before .walk .ensures .value) (c .before .before .before .before .before .from .ensures .value) (c .before .before .before .before .to .ensures .value) (omega arith),
 )
 
 add-distances : tie.Need-add-distances
-add-distances c = omega (arith, c .before .before .slice-known3 .given (c .before .before .before .to .result))
+add-distances c = omega (arith, c .before .before .slice-known3 .given (c .before .before .before .before .to .result))
 
 mul-distances : tie.Need-mul-distances
 mul-distances c = search needs
@@ -59,7 +59,7 @@ same-length c = search needs
 returns-4 : tie.Need-returns-4
 returns-4 c = (
   omega arith,
-  step (c .before .before .before .before .before .before .before .walk .ensures .value) (c .before .before .before .before .before .from .ensures .value) (c .before .before .before .to .ensures .value) (c .before .before .before .before .before .before .before .before .before .before .pre .0)
+  step (c .before .before .before .before .before .before .before .walk .ensures .value) (c .before .before .before .before .before .from .ensures .value) (c .before .before .before .before .to .ensures .value) (c .before .before .before .before .before .before .before .before .before .before .pre .0)
       (omega (arith, c .before .before .before .before .before .before .before .before .before .before .pre .1 .sound .ends (c .before .before .before .before .before .before .before .before .before .before .args .k) (c .before .before .before .before .before .before .before .before .before .before .pre .0))) (c .before .before .before .before .before .before .if1 .left) (omega arith),
 )
 
@@ -70,9 +70,9 @@ relax-walk-spec =
     walk-requires
     returns
     from-requires
+    to-requires
     mul-near
     slice-read-near
-    to-requires
     mul-far
     slice-read-far
     returns-2
