@@ -1,0 +1,87 @@
+// Records built byte by byte in a room for the longest one.
+ghost use Prim.Native.Nat.{_+_, _<_, _≤_};
+
+// A network record to build.
+pub struct Network {
+    pub version: usize,
+    pub stated: usize,
+    pub n: usize,
+    pub m: usize,
+    // The first link from which on links start at n, a node too many, and the first from which on they end there.
+    pub starts_beyond: usize,
+    pub ends_beyond: usize,
+}
+
+// A request record to build. Rider j is at node + j and weighs weight + j.
+pub struct Request {
+    pub version: usize,
+    pub stated: usize,
+    pub source: usize,
+    pub target: usize,
+    pub bus: usize,
+    pub count: usize,
+    pub node: usize,
+    pub weight: usize,
+}
+
+// The bytes of a network record, with 255 behind them. Link k is driven at 65,535 - k and walked at k.
+pub fn network_bytes(network: Network) -> [u8; 16402] {
+    let mut bytes = [255u8; 16402];
+    put_byte(&mut bytes, 0, network.version);
+    put_two(&mut bytes, 1, network.stated / 65536);
+    put_two(&mut bytes, 3, network.stated);
+    put_two(&mut bytes, 5, network.n);
+    put_two(&mut bytes, 7, network.m);
+    let mut k = 0;
+    while k < 2049 {
+        let at = 9 + 8 * k;
+        put_two(&mut bytes, at, node(network.n, k, network.starts_beyond));
+        put_two(&mut bytes, at + 2, node(network.n, k, network.ends_beyond));
+        put_two(&mut bytes, at + 4, 65535 - k);
+        put_two(&mut bytes, at + 6, k);
+        k += 1;
+    }
+    bytes
+}
+
+// The node that link k names: the last of n, or from link `beyond` on the one behind it.
+fn node(n: usize, k: usize, beyond: usize) -> usize {
+    if beyond <= k {
+        return n;
+    }
+    if n == 0 {
+        return 0;
+    }
+    n - 1
+}
+
+// The bytes of a request record with eight riders, of which it counts as many as it says.
+pub fn request_bytes(request: Request) -> [u8; 16402] {
+    let mut bytes = [255u8; 16402];
+    put_byte(&mut bytes, 0, request.version);
+    put_two(&mut bytes, 1, request.stated);
+    put_two(&mut bytes, 3, request.source);
+    put_two(&mut bytes, 5, request.target);
+    put_byte(&mut bytes, 7, request.bus);
+    put_byte(&mut bytes, 8, request.count);
+    let mut j = 0;
+    while j < 8 {
+        put_two(&mut bytes, 9 + 3 * j, request.node % 65536 + j);
+        put_byte(&mut bytes, 9 + 3 * j + 2, request.weight % 256 + j);
+        j += 1;
+    }
+    bytes
+}
+
+fn put_two(bytes: &mut [u8; 16402], at: usize, x: usize)
+    requires { ⌜ at + 2 ≤ 16402 ⌝ }
+{
+    put_byte(bytes, at, x / 256);
+    put_byte(bytes, at + 1, x);
+}
+
+fn put_byte(bytes: &mut [u8; 16402], at: usize, x: usize)
+    requires { ⌜ at < 16402 ⌝ }
+{
+    bytes[at] = (x % 256) as u8;
+}

@@ -1,0 +1,91 @@
+// The link reader: the eight bytes of a link, or none.
+use crate::answer;
+use crate::build;
+
+// Version, n, m, the first link that ends at node n, the link asked for; then the length of its part, and its bytes.
+// Links run from node n-1 to node n-1, link k is driven at 65,535 - k and walked at k.
+const ROWS: [[usize; 14]; 17] = [
+    [1, 5, 8, 8, 0, 8, 0, 4, 0, 4, 255, 255, 0, 0],
+    [1, 5, 8, 8, 1, 8, 0, 4, 0, 4, 255, 254, 0, 1],
+    [1, 5, 8, 8, 7, 8, 0, 4, 0, 4, 255, 248, 0, 7],
+    [1, 512, 2048, 2048, 2047, 8, 1, 255, 1, 255, 248, 0, 7, 255],
+    [1, 512, 2048, 2048, 256, 8, 1, 255, 1, 255, 254, 255, 1, 0],
+    [1, 1, 1, 1, 0, 8, 0, 0, 0, 0, 255, 255, 0, 0],
+    // no such link
+    [1, 5, 8, 8, 8, 0, 0, 0, 0, 0, 0, 0, 0, 0],
+    [1, 5, 8, 8, 9, 0, 0, 0, 0, 0, 0, 0, 0, 0],
+    [1, 5, 8, 8, 18446744073709551615, 0, 0, 0, 0, 0, 0, 0, 0, 0],
+    [1, 5, 8, 8, 2305843009213693952, 0, 0, 0, 0, 0, 0, 0, 0, 0],
+    [1, 512, 2048, 2048, 2048, 0, 0, 0, 0, 0, 0, 0, 0, 0],
+    [1, 5, 0, 0, 0, 0, 0, 0, 0, 0, 0, 0, 0, 0],
+    // a bad record
+    [2, 5, 8, 8, 0, 0, 0, 0, 0, 0, 0, 0, 0, 0],
+    [1, 0, 8, 8, 0, 0, 0, 0, 0, 0, 0, 0, 0, 0],
+    [1, 513, 8, 8, 7, 0, 0, 0, 0, 0, 0, 0, 0, 0],
+    [1, 5, 8, 7, 0, 0, 0, 0, 0, 0, 0, 0, 0, 0],
+    [1, 5, 8, 0, 0, 0, 0, 0, 0, 0, 0, 0, 0, 0],
+];
+
+pub const CASES: u64 = 17;
+
+pub fn all_pass() -> bool {
+    let mut i = 0;
+    while i < 17 {
+        if !case_passes(i, ROWS[i]) {
+            return false;
+        }
+        i += 1;
+    }
+    true
+}
+
+fn case_passes(i: usize, row: [usize; 14]) -> bool {
+    let m = row[2];
+    if 2049 < m {
+        return false;
+    }
+    let size = 9 + 8 * m;
+    let bytes = build::network_bytes(build::Network {
+        version: row[0],
+        stated: size,
+        n: row[1],
+        m,
+        starts_beyond: m,
+        ends_beyond: row[3],
+    });
+    answer::passes(
+        b"link",
+        i,
+        of_link(records::link(&bytes[0..size], row[4])),
+        right_answer(row),
+    )
+}
+
+// How long a part is, and its bytes, up to eight.
+fn of_link(part: &[u8]) -> [usize; 20] {
+    let mut answer = [0usize; 20];
+    answer[0] = part.len();
+    let mut i = 0;
+    while i < 8 {
+        if part.len() <= i {
+            return answer;
+        }
+        answer[1 + i] = wide(part[i]);
+        i += 1;
+    }
+    answer
+}
+
+fn right_answer(row: [usize; 14]) -> [usize; 20] {
+    let mut answer = [0usize; 20];
+    let mut i = 0;
+    while i < 9 {
+        answer[i] = row[5 + i];
+        i += 1;
+    }
+    answer
+}
+
+fn wide(x: u8) -> usize {
+    x as usize
+}
