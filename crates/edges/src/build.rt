@@ -12,7 +12,7 @@ pub struct Network {
     pub ends_beyond: usize,
 }
 
-// A request record to build. Rider j is at node + j and weighs weight + j.
+// A request record to build, with the node and the weight of rider 0.
 pub struct Request {
     pub version: usize,
     pub stated: usize,
@@ -24,7 +24,7 @@ pub struct Request {
     pub weight: usize,
 }
 
-// The bytes of a network record, with 255 behind them. Link k is driven at 65,535 - k and walked at k.
+// The bytes of a network record, with 255 behind them.
 pub fn network_bytes(network: Network) -> [u8; 16402] {
     let mut bytes = [255u8; 16402];
     put_byte(&mut bytes, 0, network.version);
@@ -32,16 +32,24 @@ pub fn network_bytes(network: Network) -> [u8; 16402] {
     put_two(&mut bytes, 3, network.stated);
     put_two(&mut bytes, 5, network.n);
     put_two(&mut bytes, 7, network.m);
+    put_links(&mut bytes, network);
+    bytes
+}
+
+// Puts the links, as many as there is room for. Link k is driven at 65,535 - k and walked at k.
+fn put_links(bytes: &mut [u8; 16402], network: Network) {
     let mut k = 0;
     while k < 2049 {
+        if network.m <= k {
+            return;
+        }
         let at = 9 + 8 * k;
-        put_two(&mut bytes, at, node(network.n, k, network.starts_beyond));
-        put_two(&mut bytes, at + 2, node(network.n, k, network.ends_beyond));
-        put_two(&mut bytes, at + 4, 65535 - k);
-        put_two(&mut bytes, at + 6, k);
+        put_two(bytes, at, node(network.n, k, network.starts_beyond));
+        put_two(bytes, at + 2, node(network.n, k, network.ends_beyond));
+        put_two(bytes, at + 4, 65535 - k);
+        put_two(bytes, at + 6, k);
         k += 1;
     }
-    bytes
 }
 
 // The node that link k names: the last of n, or from link `beyond` on the one behind it.
@@ -55,7 +63,7 @@ fn node(n: usize, k: usize, beyond: usize) -> usize {
     n - 1
 }
 
-// The bytes of a request record with eight riders, of which it counts as many as it says.
+// The bytes of a request record with eight riders, of which it counts as many as it says, and 255 behind them.
 pub fn request_bytes(request: Request) -> [u8; 16402] {
     let mut bytes = [255u8; 16402];
     put_byte(&mut bytes, 0, request.version);
@@ -64,13 +72,18 @@ pub fn request_bytes(request: Request) -> [u8; 16402] {
     put_two(&mut bytes, 5, request.target);
     put_byte(&mut bytes, 7, request.bus);
     put_byte(&mut bytes, 8, request.count);
+    put_riders(&mut bytes, request);
+    bytes
+}
+
+// Puts eight riders: rider j is at node + j and weighs weight + j.
+fn put_riders(bytes: &mut [u8; 16402], request: Request) {
     let mut j = 0;
     while j < 8 {
-        put_two(&mut bytes, 9 + 3 * j, request.node % 65536 + j);
-        put_byte(&mut bytes, 9 + 3 * j + 2, request.weight % 256 + j);
+        put_two(bytes, 9 + 3 * j, request.node % 65536 + j);
+        put_byte(bytes, 9 + 3 * j + 2, request.weight % 256 + j);
         j += 1;
     }
-    bytes
 }
 
 fn put_two(bytes: &mut [u8; 16402], at: usize, x: usize)

@@ -1,10 +1,13 @@
 // The link reader: the eight bytes of a link, or none.
 use crate::answer;
 use crate::build;
+ghost use Prim.Native.Nat.{_<_};
+
+pub const CASES: usize = 17;
 
 // Version, n, m, the first link that ends at node n, the link asked for; then the length of its part, and its bytes.
 // Links run from node n-1 to node n-1, link k is driven at 65,535 - k and walked at k.
-const ROWS: [[usize; 14]; 17] = [
+const ROWS: [[usize; 14]; CASES] = [
     [1, 5, 8, 8, 0, 8, 0, 4, 0, 4, 255, 255, 0, 0],
     [1, 5, 8, 8, 1, 8, 0, 4, 0, 4, 255, 254, 0, 1],
     [1, 5, 8, 8, 7, 8, 0, 4, 0, 4, 255, 248, 0, 7],
@@ -26,20 +29,18 @@ const ROWS: [[usize; 14]; 17] = [
     [1, 5, 8, 0, 0, 0, 0, 0, 0, 0, 0, 0, 0, 0],
 ];
 
-pub const CASES: u64 = 17;
-
-pub fn all_pass() -> bool {
-    let mut i = 0;
-    while i < 17 {
-        if !case_passes(i, ROWS[i]) {
-            return false;
-        }
-        i += 1;
-    }
-    true
+fn row_at(i: usize) -> [usize; 14]
+    requires { ⌜ i < 17 ⌝ }
+{
+    ROWS[i]
 }
 
-fn case_passes(i: usize, row: [usize; 14]) -> bool {
+// Whether case i passes. Says what is wrong where it does not.
+pub fn case_passes(i: usize) -> bool {
+    if CASES <= i {
+        return false;
+    }
+    let row = row_at(i);
     let m = row[2];
     if 2049 < m {
         return false;

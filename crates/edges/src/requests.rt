@@ -1,10 +1,13 @@
 // The request reader at its limits, for a network of n nodes and no link.
 use crate::answer;
 use crate::build;
+ghost use Prim.Native.Nat.{_<_};
+
+pub const CASES: usize = 63;
 
 // n, version, the slice's length, stated length, source, target, bus weight, rider count, node and weight of rider 0
 // (rider j has j more of both); then the refusal and its place, or 0 and 0 where the record is read.
-const ROWS: [[usize; 12]; 63] = [
+const ROWS: [[usize; 12]; CASES] = [
     // read: the limits of the count, the weights and the nodes
     [5, 1, 12, 12, 0, 3, 1, 1, 4, 1, 0, 0],
     [5, 1, 9, 9, 0, 0, 1, 0, 4, 1, 0, 0],
@@ -79,20 +82,18 @@ const ROWS: [[usize; 12]; 63] = [
     [512, 1, 30, 30, 0, 3, 1, 7, 0, 249, 17, 1],
 ];
 
-pub const CASES: u64 = 63;
-
-pub fn all_pass() -> bool {
-    let mut i = 0;
-    while i < 63 {
-        if !case_passes(i, ROWS[i]) {
-            return false;
-        }
-        i += 1;
-    }
-    true
+fn row_at(i: usize) -> [usize; 12]
+    requires { ⌜ i < 63 ⌝ }
+{
+    ROWS[i]
 }
 
-fn case_passes(i: usize, row: [usize; 12]) -> bool {
+// Whether case i passes. Says what is wrong where it does not.
+pub fn case_passes(i: usize) -> bool {
+    if CASES <= i {
+        return false;
+    }
+    let row = row_at(i);
     let network = build::network_bytes(build::Network {
         version: 1,
         stated: 9,
