@@ -24,6 +24,14 @@ pub struct Request {
     pub weight: usize,
 }
 
+// The first `size` bytes, or all where there are fewer.
+pub fn first(bytes: &[u8], size: usize) -> &[u8] {
+    if bytes.len() < size {
+        return bytes;
+    }
+    &bytes[0..size]
+}
+
 // The bytes of a network record, with 255 behind them.
 pub fn network_bytes(network: Network) -> [u8; 16402] {
     let mut bytes = [255u8; 16402];

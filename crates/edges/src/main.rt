@@ -6,6 +6,7 @@ mod networks;
 mod requests;
 
 use libc::STDOUT_FILENO;
+ghost use Prim.Native.Nat.{_<_};
 
 const CASES: usize = networks::CASES + requests::CASES + links::CASES;
 
@@ -22,7 +23,9 @@ fn main() {
 }
 
 // Whether case i passes: those of the network reader come first, then the request reader's, then the link reader's.
-fn case_passes(i: usize) -> bool {
+fn case_passes(i: usize) -> bool
+    requires { ⌜ i < 126 ⌝ }
+{
     if i < networks::CASES {
         return networks::case_passes(i);
     }
