@@ -44,7 +44,7 @@ pub fn network_bytes(network: Network) -> [u8; 16402] {
     bytes
 }
 
-// Puts the links, as many as there is room for. Link k is driven at 65,535 - k and walked at k.
+// Puts the links, as many as there is room for. Link k costs 65,535 - k to drive and 65,528 + k to walk.
 fn put_links(bytes: &mut [u8; 16402], network: Network) {
     let mut k = 0;
     while k < 2049 {
@@ -55,7 +55,7 @@ fn put_links(bytes: &mut [u8; 16402], network: Network) {
         put_two(bytes, at, node(network.n, k, network.starts_beyond));
         put_two(bytes, at + 2, node(network.n, k, network.ends_beyond));
         put_two(bytes, at + 4, 65535 - k);
-        put_two(bytes, at + 6, k);
+        put_two(bytes, at + 6, 65528 + k);
         k += 1;
     }
 }

@@ -24,7 +24,7 @@ fn main() {
 
 // Whether case i passes: those of the network reader come first, then the request reader's, then the link reader's.
 fn case_passes(i: usize) -> bool
-    requires { ⌜ i < 126 ⌝ }
+    requires { ⌜ i < 127 ⌝ }
 {
     if i < networks::CASES {
         return networks::case_passes(i);

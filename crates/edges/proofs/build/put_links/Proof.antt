@@ -48,6 +48,9 @@ put-two-requires-3 c κs = search needs
 add-put-two-3 : tie.Need-add-put-two-3 Inv-loop μ-loop
 add-put-two-3 c = search needs
 
+add-put-two-4 : tie.Need-add-put-two-4 Inv-loop μ-loop
+add-put-two-4 c = search needs
+
 put-two-requires-4 : tie.Need-put-two-requires-4 Inv-loop μ-loop
 put-two-requires-4 c κs = search needs
 
@@ -82,6 +85,7 @@ put-links-spec =
     sub-put-two
     put-two-requires-3
     add-put-two-3
+    add-put-two-4
     put-two-requires-4
     add-k
     loop-less
