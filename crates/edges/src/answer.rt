@@ -1,13 +1,20 @@
-// What a reader answered, as twenty numbers: the refusal's number and place, then the values it came with, then 0.
+// What a reader answered, as twenty numbers, most often the refusal's number and place and then the values beside it.
+// Numbers behind these are 0.
 use libc::STDOUT_FILENO;
-use rules::RequestRead;
 use rules::Verdict;
 
-// An answer that starts with a refusal's number and place, both 0 where nothing is refused.
+// A refusal's number and place, both 0 where nothing is refused.
 pub fn of_refusal(number: usize, place: usize) -> [usize; 20] {
     let mut answer = [0usize; 20];
     answer[0] = number;
     answer[1] = place;
+    answer
+}
+
+// One number.
+pub fn of_number(x: usize) -> [usize; 20] {
+    let mut answer = [0usize; 20];
+    answer[0] = x;
     answer
 }
 

@@ -62,8 +62,7 @@ pub fn case_passes(i: usize) -> bool
 
 // How long a part is, and its bytes, up to eight.
 fn of_link(part: &[u8]) -> [usize; 20] {
-    let mut answer = [0usize; 20];
-    answer[0] = part.len();
+    let mut answer = answer::of_number(part.len());
     let mut i = 0;
     while i < 8 {
         if part.len() <= i {

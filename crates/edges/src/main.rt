@@ -1,6 +1,7 @@
 // Tries the edges of document 01's limits on the readers of the two records, and stops at the first wrong answer.
 mod answer;
 mod build;
+mod inputs;
 mod links;
 mod networks;
 mod requests;
@@ -8,7 +9,7 @@ mod requests;
 use libc::STDOUT_FILENO;
 ghost use Prim.Native.Nat.{_<_};
 
-const CASES: usize = networks::CASES + requests::CASES + links::CASES;
+const CASES: usize = networks::CASES + requests::CASES + links::CASES + inputs::CASES;
 
 fn main() {
     let mut i = 0;
@@ -22,9 +23,10 @@ fn main() {
     io::write_all(STDOUT_FILENO, b" cases, 0 wrong\n");
 }
 
-// Whether case i passes: those of the network reader come first, then the request reader's, then the link reader's.
+// Whether case i passes: those of the network reader come first, then the request reader's, then the link reader's,
+// then those of an input's parts.
 fn case_passes(i: usize) -> bool
-    requires { ⌜ i < 127 ⌝ }
+    requires { ⌜ i < 141 ⌝ }
 {
     if i < networks::CASES {
         return networks::case_passes(i);
@@ -33,5 +35,9 @@ fn case_passes(i: usize) -> bool
     if j < requests::CASES {
         return requests::case_passes(j);
     }
-    links::case_passes(j - requests::CASES)
+    let k = j - requests::CASES;
+    if k < links::CASES {
+        return links::case_passes(k);
+    }
+    inputs::case_passes(k - links::CASES)
 }

@@ -9,8 +9,8 @@ Inv-loop part answer₀ i₀ answer i = Unit
 abbrev μ-loop : tie.MeasureT-loop
 μ-loop part answer₀ i₀ answer i = 8 - i
 
-array-write-answer : tie.Need-array-write-answer Inv-loop μ-loop
-array-write-answer c = search needs
+of-number-requires : tie.Need-of-number-requires Inv-loop μ-loop
+of-number-requires c κs = search needs
 
 loop-holds : tie.Need-loop-holds Inv-loop μ-loop
 loop-holds c = search needs
@@ -30,8 +30,8 @@ add-answer c = search needs
 mul-answer : tie.Need-mul-answer Inv-loop μ-loop
 mul-answer c = search needs
 
-array-write-answer-2 : tie.Need-array-write-answer-2 Inv-loop μ-loop
-array-write-answer-2 c = search needs
+array-write-answer : tie.Need-array-write-answer Inv-loop μ-loop
+array-write-answer c = search needs
 
 add-i : tie.Need-add-i Inv-loop μ-loop
 add-i c = search needs
@@ -51,14 +51,14 @@ of-link-spec =
     (tie.spec
     Inv-loop
     μ-loop
-    array-write-answer
+    of-number-requires
     loop-holds
     returns
     shared-slice-read-wide
     wide-requires
     add-answer
     mul-answer
-    array-write-answer-2
+    array-write-answer
     add-i
     loop-less
     loop-again
