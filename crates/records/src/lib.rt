@@ -1,9 +1,11 @@
 // Readers of the two records of document 01. Every slice, of any length and content, gets its value or its refusal.
 mod common;
 pub mod inner;
+mod input;
 mod network;
 mod request;
 
+pub use input::network_size;
 pub use network::link;
 pub use network::read_network;
 pub use request::read_request;

@@ -42,7 +42,7 @@ part-result-start-2 : tie.Need-part-result-start-2
 part-result-start-2 c = search needs
 
 part-result-end-2 : tie.Need-part-result-end-2
-part-result-end-2 c = link-fits _ _ (rw (c .before .read-network .ensures) at (c .if1 .left))
+part-result-end-2 c = omega (arith, link-fits _ _ (rw (c .before .read-network .ensures) at (c .if1 .left)))
 
 returns-2 : tie.Need-returns-2
 returns-2 c =

@@ -1,0 +1,54 @@
+// Where the network of an input ends.
+use crate::answer;
+use crate::build;
+ghost use Prim.Native.Nat.{_<_};
+
+pub const CASES: usize = 14;
+
+// Version, the input's length, stated length; then how many bytes are the network.
+const ROWS: [[usize; 4]; CASES] = [
+    [1, 73, 73, 73],
+    [1, 85, 73, 73],
+    [1, 73, 72, 72],
+    [1, 16402, 16393, 16393],
+    [2, 85, 73, 73],
+    // shorter than stated
+    [1, 72, 73, 72],
+    [1, 73, 329, 73],
+    [1, 73, 65609, 73],
+    [1, 73, 4294967295, 73],
+    // under 5 bytes
+    [1, 0, 0, 0],
+    [1, 4, 0, 4],
+    [1, 4, 3, 4],
+    [1, 5, 0, 0],
+    [1, 5, 4, 4],
+];
+
+fn row_at(i: usize) -> [usize; 4]
+    requires { ⌜ i < 14 ⌝ }
+{
+    ROWS[i]
+}
+
+// Whether case i passes. Says what is wrong where it does not.
+pub fn case_passes(i: usize) -> bool
+    requires { ⌜ i < 14 ⌝ }
+{
+    let row = row_at(i);
+    let bytes = build::network_bytes(build::Network {
+        version: row[0],
+        stated: row[2],
+        n: 5,
+        m: 8,
+        starts_beyond: 8,
+        ends_beyond: 8,
+    });
+    let size = records::network_size(build::first(&bytes, row[1]));
+    answer::passes(
+        b"input",
+        i,
+        answer::of_number(size),
+        answer::of_number(row[3]),
+    )
+}
