@@ -1,0 +1,7 @@
+pub mod Below
+pub mod Sets
+pub mod Steps
+pub mod Adding
+pub mod Driving
+pub mod Routes
+pub mod Right
