@@ -5,3 +5,4 @@ pub mod Adding
 pub mod Driving
 pub mod Routes
 pub mod Right
+pub mod Reading
