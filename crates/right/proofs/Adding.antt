@@ -12,7 +12,7 @@ use Rattle.rules.specs.Routes.{RiderWalks, nodeAt}
 use Rattle.rules.specs.Plans.{Has, without, Finish, arrive, meet, drive, NoLater}
 use Rattle.rules.specs.declared.Request.{Request}
 use Rattle.right.specs.Steps.{drivesOf, metAt}
-use Rattle.right.proofs.Sets.{none-has, has-le, has-below, without-other, without-same}
+use Rattle.right.proofs.Sets.{none-has, has-below, without-other, without-same}
 use Rattle.right.proofs.Steps.{drives-meet, drives-drive, met-here, met-meet, met-drive, node-drive}
 
 -- The second list is the first with rider j met besides, at a position, in any order with the others met there.

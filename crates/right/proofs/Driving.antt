@@ -1,22 +1,21 @@
 -- A plan is a route with a position for each rider.
 use Prim.Native.Nat.{ℕ, zero, suc, _+_, _-_, _*_, _/_, _%_, _^_, _<_, _≤_}
-use mathlib.Core.Path.{_≡_, refl, sym, ap, ap₂, _∙_}
-use mathlib.Core.Logic.{_≢_, _↔_}
-use mathlib.Core.List.{List, [], _∷_, map}
-use lib.ListN.{length, getD, length-map}
-use native.Mathlib.Nat.{mul-add, mul-zero, zero-div, zero-mod, pow-le-pow-right, mul-le-mul-left, one-le-pow}
-use native.Mathlib.Decide.{ℕ-discrete, decLt}
+use mathlib.Core.Path.{_≡_, refl, sym, ap, _∙_}
+use mathlib.Core.List.{List}
+use lib.ListN.{length}
+use native.Mathlib.Nat.{mul-add, mul-zero, zero-div}
+use native.Mathlib.Decide.{ℕ-discrete}
 use native.Mathlib.Omega.{arith}
-use Rattle.rules.specs.Request.{riderNodeOf, riderWeightOf}
-use Rattle.rules.specs.Walks.{Way, arrived, along, Walk, WalkingDistance}
-use Rattle.rules.specs.Routes.{Drivable, Route, RiderWalks, nodeAt, sum, Price}
-use Rattle.rules.specs.Plans.{Has, without, allRiders, driveStep, Finish, arrive, meet, drive, Plan, RightPlan, NoPlan}
+use Rattle.rules.specs.Request.{riderWeightOf}
+use Rattle.rules.specs.Walks.{Way, arrived, along}
+use Rattle.rules.specs.Routes.{Drivable, RiderWalks, nodeAt, sum}
+use Rattle.rules.specs.Plans.{Has, without, Finish, arrive, meet, drive}
 use Rattle.rules.specs.declared.Request.{Request}
 use Rattle.rules.proofs.WalkLaws.{way-sum, distance-unique}
-use Rattle.right.specs.Steps.{drivesOf, metAt, timesMet, SumAt, Along, Reaches, NoDrive}
+use Rattle.right.specs.Steps.{drivesOf, metAt, timesMet}
 use Rattle.right.proofs.Sets.{none-has, has-below, without-other, without-same, first-has, first-without, first-small}
 use Rattle.right.proofs.Steps.{drives-meet, drives-drive, times-here, times-other}
-use Rattle.right.proofs.Adding.{Added, added-length, added-drives, added-at, added-other, Taken, take, Put, put}
+use Rattle.right.proofs.Adding.{added-drives, added-at, added-other, take}
 
 -- The drive steps of a finish lead from v to the target. Where nobody is left to be met, driving is all that it costs.
 pub record Driven (network : List ℕ) (q : Request) (R v : ℕ) (steps : List ℕ) (cost : ℕ) : Type 0 where

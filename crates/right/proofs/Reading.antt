@@ -1,22 +1,22 @@
 -- The lowest tight steps, one after the other, are the right plan.
-use Prim.Native.Nat.{ℕ, zero, suc, _+_, _-_, _*_, _/_, _%_, _^_, _<_, _≤_}
-use mathlib.Core.Path.{_≡_, refl, sym, ap, _∙_, subst}
-use mathlib.Core.Logic.{_≢_, inl, inr, _↔_}
+use Prim.Native.Nat.{ℕ, suc, _+_, _*_, _/_, _%_, _^_, _<_, _≤_}
+use mathlib.Core.Path.{_≡_, refl, ap}
+use mathlib.Core.Logic.{inl, inr, _↔_}
 use mathlib.Core.List.{List, [], _∷_, _++_, append-nil, append-assoc}
 use lib.ListN.{length, length-append}
 use native.Mathlib.Nat.{one-le-pow, pow-le-pow-right}
-use native.Mathlib.Decide.{ℕ-discrete, decLt}
+use native.Mathlib.Decide.{decLt}
 use native.Mathlib.Omega.{arith}
 use Rattle.rules.specs.Network.{nodeCount, SoundNetwork}
-use Rattle.rules.specs.Request.{riderWeightOf, SoundValue}
-use Rattle.rules.specs.Plans.{Has, without, allRiders, Finish, arrive, meet, drive, NoLater, Best, RightPlan}
-use Rattle.rules.specs.Rooms.{noFinish, HasFinish, HoldsFinish}
+use Rattle.rules.specs.Request.{SoundValue}
+use Rattle.rules.specs.Plans.{allRiders, Finish, arrive, meet, drive, NoLater, RightPlan}
+use Rattle.rules.specs.Rooms.{noFinish, HasFinish}
 use Rattle.rules.specs.declared.Request.{Request}
 use Rattle.right.specs.Reading.{Tabled, Step, meets, drives, Tight, Next, First, planValue, Reading}
 use Rattle.right.proofs.Sets.{has-below}
 
 -- A finish taken apart into its first step and the finish behind it.
-record Opened (network : List ℕ) (q : Request) (R v step : ℕ) (steps : List ℕ) (cost : ℕ) : Type 0 where
+record Begun (network : List ℕ) (q : Request) (R v step : ℕ) (steps : List ℕ) (cost : ℕ) : Type 0 where
   S : ℕ
   x : ℕ
   here : ℕ
@@ -26,9 +26,9 @@ record Opened (network : List ℕ) (q : Request) (R v step : ℕ) (steps : List 
   costs : cost ≡ here + rest
 
 module _ {network : List ℕ} {q : Request} where
-  opened : {R v step c : ℕ} {steps : List ℕ} → Finish network q R v (step ∷ steps) c → Opened network q R v step steps c
-  opened (meet d rest has walks f e) = record { leads = meets d has walks refl refl refl; finishes = f; costs = e; S = _; x = _; here = _; rest = _ }
-  opened (drive k x w rest s link f e) = record { leads = drives k w s link refl refl; finishes = f; costs = e; S = _; x = _; here = _; rest = _ }
+  begun : {R v step c : ℕ} {steps : List ℕ} → Finish network q R v (step ∷ steps) c → Begun network q R v step steps c
+  begun (meet d rest has walks f e) = record { leads = meets d has walks refl refl refl; finishes = f; costs = e; S = _; x = _; here = _; rest = _ }
+  begun (drive k x w rest s link f e) = record { leads = drives k w s link refl refl; finishes = f; costs = e; S = _; x = _; here = _; rest = _ }
 
   go-on : {R v step S x c rest : ℕ} {steps : List ℕ} → Step network q R v step S x c → Finish network q S x steps rest → Finish network q R v (step ∷ steps) (c + rest)
   go-on {rest = rest} (meets d has walks s x e) f = meet d rest has walks (rw (s, x) at f) (ap (λ (c : ℕ). c + rest) e)
@@ -47,8 +47,8 @@ module _ {network : List ℕ} {q : Request} where
     step-inside (drives k _ _ link s _) h g = (omega arith, omega (arith, sound .ends k (link .exists)))
 
     module _ (value : SoundValue (nodeCount network) q) {T : ℕ → ℕ → ℕ} (table : Tabled network q T) where
-      all : allRiders q < 2 ^ q .count
-      all = omega (arith, one-le-pow (q .count) 2 (omega arith))
+      all-below : allRiders q < 2 ^ q .count
+      all-below = omega (arith, one-le-pow (q .count) 2 (omega arith))
 
       -- No step with the value where it leads undercuts the value here.
       relaxed : {R v step S x c : ℕ} → Step network q R v step S x c → R < 2 ^ q .count → v < nodeCount network → T R v ≤ 4096 * c + 1 + T S x
@@ -62,8 +62,8 @@ module _ {network : List ℕ} {q : Request} where
       ]
 
       -- The first step of a finish of the value here is tight, and what follows has the value where it leads.
-      opened-tight : {R v step c : ℕ} {steps : List ℕ} → R < 2 ^ q .count → v < nodeCount network → T R v ≡ 4096 * c + suc (length steps) → (o : Opened network q R v step steps c) → Tight network q T R v step (o .S) (o .x) × (T (o .S) (o .x) ≡ 4096 * o .rest + length steps)
-      opened-tight {steps = steps} h g e o =
+      begun-tight : {R v step c : ℕ} {steps : List ℕ} → R < 2 ^ q .count → v < nodeCount network → T R v ≡ 4096 * c + suc (length steps) → (o : Begun network q R v step steps c) → Tight network q T R v step (o .S) (o .x) × (T (o .S) (o .x) ≡ 4096 * o .rest + length steps)
+      begun-tight {steps = steps} h g e o =
           let (i, j) = step-inside (o .leads) h g in
           let low = table .least (o .S) (o .x) i j .lowest (4096 * o .rest + length steps) (record { steps = steps; cost = o .rest; finishes = o .finishes; packs = refl }) in
           let high = relaxed (o .leads) h g in
@@ -86,7 +86,7 @@ module _ {network : List ℕ} {q : Request} where
         where
           start : {c : ℕ} (steps : List ℕ) → Finish network q R v steps c → T R v ≡ 4096 * c + length steps → (step S x : ℕ) × Tight network q T R v step S x
           start [] (arrive r t z) e = absurd (omega arith)
-          start (s ∷ steps) f e = let o = opened f in (s, o .S, o .x, opened-tight h g e o .0)
+          start (s ∷ steps) f e = let o = begun f in (s, o .S, o .x, begun-tight h g e o .0)
 
       first-done : {R v : ℕ} → R < 2 ^ q .count → v < nodeCount network → T R v ≡ 0 → First network q R v (T R v) []
       unfolding NoLater
@@ -106,9 +106,9 @@ module _ {network : List ℕ} {q : Request} where
           small : R < 2 ^ 7
           small = omega (arith, pow-le-pow-right {n = 2} (omega arith) (value .riders))
 
-          behind-step : {s c : ℕ} {other : List ℕ} → T R v ≡ 4096 * c + suc (length other) → Opened network q R v s other c → NoLater (step ∷ steps) (s ∷ other)
+          behind-step : {s c : ℕ} {other : List ℕ} → T R v ≡ 4096 * c + suc (length other) → Begun network q R v s other c → NoLater (step ∷ steps) (s ∷ other)
           behind-step {s} {other = other} e o =
-              let (tight, rest) = opened-tight h g e o in
+              let (tight, rest) = begun-tight h g e o in
               elim (decLt step s) [
                 | yes l ↦ inl l
                 | no l ↦ (
@@ -120,7 +120,7 @@ module _ {network : List ℕ} {q : Request} where
 
           first : (other : List ℕ) (c : ℕ) → Finish network q R v other c → T R v ≡ 4096 * c + length other → NoLater (step ∷ steps) other
           first [] c (arrive r t z) e = absurd (omega (arith, next .tight .tight))
-          first (s ∷ other) c f e = behind-step e (opened f)
+          first (s ∷ other) c f e = behind-step e (begun f)
 
       -- The value of a best finish gives its cost and number of steps back.
       best-packs : {R v : ℕ} → R < 2 ^ q .count → v < nodeCount network → T R v < noFinish → (b : HasFinish network q R v (T R v)) × (length (b .steps) < 4096)
@@ -138,9 +138,9 @@ module _ {network : List ℕ} {q : Request} where
 
       -- What finishes first from the source is the right plan. A best plan has the same value and fewer than 4,096 steps, and is not dearer, so the two cost the same and have as many steps.
       first-right : {steps : List ℕ} → First network q (allRiders q) (q .source) (planValue q T) steps → RightPlan network q steps (planValue q T / 4096) × (planValue q T % 4096 ≡ length steps)
-      first-right {steps} f = elim (table .holds (allRiders q) (q .source) all (value .starts)) [
+      first-right {steps} f = elim (table .holds (allRiders q) (q .source) all-below (value .starts)) [
         | inl b ↦ (
-            let few = table .few (allRiders q) (q .source) all (value .starts) (b .best) in
+            let few = table .few (allRiders q) (q .source) all-below (value .starts) (b .best) in
             let cheap = b .best .cheapest steps (f .cost) (f .finishes) in
             let same : f .cost ≡ b .cost = omega (arith, f .packs, b .packs) in
             let cost : planValue q T / 4096 ≡ f .cost = omega (arith, f .packs, b .packs) in (
@@ -161,7 +161,7 @@ module _ {network : List ℕ} {q : Request} where
       ]
 
       pub reading-start : planValue q T < noFinish → Reading network q T [] (allRiders q) (q .source)
-      reading-start l = record { set = all; node = value .starts; finite = l; continues = λ steps first. first; left = omega arith }
+      reading-start l = record { set = all-below; node = value .starts; finite = l; continues = λ steps first. first; left = omega arith }
 
       pub reading-next : {written : List ℕ} {R v step S x : ℕ} → Reading network q T written R v → Next network q T R v step S x → Reading network q T (written ++ step ∷ []) S x
       reading-next {written} {step = step} r next =

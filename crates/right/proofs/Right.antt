@@ -2,7 +2,7 @@
 use Prim.Native.Nat.{ℕ, _+_, _*_, _<_, _≤_}
 use mathlib.Core.Path.{_≡_, refl, sym, _∙_, subst}
 use mathlib.Core.List.{List}
-use lib.ListN.{length, getD}
+use lib.ListN.{length}
 use native.Mathlib.Nat.{zero-add, le-of-mul-le-mul-left}
 use native.Mathlib.Omega.{arith}
 use Rattle.rules.specs.Request.{riderWeightOf, SoundValue}

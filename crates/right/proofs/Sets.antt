@@ -1,8 +1,8 @@
 -- Rider sets as numbers: taking a rider out of a set, and the sets of the first riders.
-use Prim.Native.Nat.{ℕ, zero, suc, _+_, _-_, _*_, _/_, _%_, _^_, _≤_, _<_}
+use Prim.Native.Nat.{ℕ, zero, suc, _-_, _/_, _%_, _^_, _≤_, _<_}
 use mathlib.Core.Path.{_≡_, refl, sym, ap}
 use mathlib.Core.Logic.{_≢_}
-use native.Mathlib.Nat.{pow-succ', div-div-eq-div-mul, div-one, zero-div, one-le-pow, pow-le-pow-right}
+use native.Mathlib.Nat.{div-eq-of-lt, pow-succ', div-div-eq-div-mul, div-one, zero-div, one-le-pow, pow-le-pow-right}
 use native.Mathlib.Omega.{arith}
 use native.Mathlib.Decide.{decLt}
 use Rattle.rules.specs.Plans.{Has, without}
@@ -42,6 +42,9 @@ first-has (suc l) zero h = omega (arith, div-one (2 ^ suc l - 1), pow-succ' 2 l,
 first-has (suc l) (suc j) h =
     let e : (2 ^ suc l - 1) / 2 ≡ 2 ^ l - 1 = omega (arith, pow-succ' 2 l) in
     simp (half, e) (first-has l j (omega arith))
+
+pub first-lacks : (l j : ℕ) → l ≤ j → (2 ^ l - 1) / 2 ^ j % 2 ≡ 0
+first-lacks l j h = rw (div-eq-of-lt {n = 2 ^ l - 1} {m = 2 ^ j} (omega (arith, pow-le-pow-right {n = 2} (omega arith) h, one-le-pow l 2 (omega arith))))
 
 pub first-without : (l : ℕ) → without (2 ^ suc l - 1) l ≡ 2 ^ l - 1
 first-without l = omega (arith, pow-succ' 2 l)
