@@ -12,7 +12,7 @@ use Rattle.rules.specs.Routes.{RiderWalks, nodeAt}
 use Rattle.rules.specs.Plans.{Has, without, Finish, arrive, meet, drive, NoLater}
 use Rattle.rules.specs.declared.Request.{Request}
 use Rattle.right.specs.Steps.{drivesOf, metAt}
-use Rattle.right.proofs.Sets.{none-has, has-below, without-other, without-same}
+use Rattle.finish.proofs.Sets.{none-has, has-below, without-others}
 use Rattle.right.proofs.Steps.{drives-meet, drives-drive, met-here, met-meet, met-drive, node-drive}
 
 -- The second list is the first with rider j met besides, at a position, in any order with the others met there.
@@ -93,6 +93,7 @@ pub record Put (network : List ℕ) (q : Request) (R v j p : ℕ) (steps : List 
   pub ahead : Ahead j p steps others
 
 module _ {network : List ℕ} {q : Request} {j : ℕ} where
+  -- Rider j's meeting can be left out: it changes neither where the bus is nor who else is still to be met.
   pub take : {R v c : ℕ} {steps : List ℕ} → R < 2 ^ 7 → Has R j → Finish network q R v steps c → Taken network q R v j steps c
   unfolding nodeAt
   take small h (arrive e _ _) = absurd (none-has j (rw e at h))
@@ -109,7 +110,7 @@ module _ {network : List ℕ} {q : Request} {j : ℕ} where
       costs = rw same at e;
     }
     | no g ↦ (
-        let t = take {R = without R i} (omega arith) (without-other R j i has (λ o. g (sym o)) ∙ h) f in
+        let t = take {R = without R i} (omega arith) (without-others R i has j .1 (h, λ o. g (sym o))) f in
         let small : i < 8 = omega (arith, has-below R i 7 small has) in
         record {
           others = i ∷ t .others;
@@ -117,7 +118,7 @@ module _ {network : List ℕ} {q : Request} {j : ℕ} where
           d = t .d;
           rest = riderWeightOf q i * d + t .rest;
           added = meeting small g (t .added);
-          finishes = meet d (t .rest) (without-other R i j h g ∙ has) walks (rw (sub-right-comm R (2 ^ i) (2 ^ j)) at (t .finishes)) refl;
+          finishes = meet d (t .rest) (without-others R j h i .1 (has, g)) walks (rw (sub-right-comm R (2 ^ i) (2 ^ j)) at (t .finishes)) refl;
           within = rw (drives-meet (t .others) small) (t .within);
           walks = rw (drives-meet (t .others) small) (t .walks);
           costs = omega arith;
@@ -139,6 +140,7 @@ module _ {network : List ℕ} {q : Request} {j : ℕ} where
         costs = omega arith;
       }
 
+  -- And it can be put in at any position to whose node the rider has a walking distance: before the drive step that leaves the position, or at the end.
   pub put : {R S v c d : ℕ} {steps : List ℕ} → R < 2 ^ 7 → Has R j → S ≡ without R j → Finish network q S v steps c → (p : ℕ) → p ≤ length (drivesOf steps) → RiderWalks network q j (nodeAt network v (drivesOf steps) p) d → Put network q R v j p steps (riderWeightOf q j * d + c)
   unfolding nodeAt drivesOf
   put {c = c} {d} small h set (arrive e t z) zero within walks =
@@ -150,10 +152,9 @@ module _ {network : List ℕ} {q : Request} {j : ℕ} where
       }
   put small h set (arrive e t z) (suc p) within walks = absurd (omega arith)
   put {R} {S} {v} {d = d} small h set (meet {j = i} {c} {steps} e rest has walked f sum) p within walks =
-      let g : i ≢ j = λ o. absurd (omega (arith, without-same R j h, rw (set, o) at has)) in
-      let member : Has R i = sym (without-other R i j h g) ∙ (rw set at has) in
+      let (member, g) = without-others R j h i .0 (rw set at has) in
       let low : i < 8 = omega (arith, has-below R i 7 small member) in
-      let t = put {R = without R i} (omega arith) (without-other R j i member (λ o. g (sym o)) ∙ h) (omega arith) f p (rw (drives-meet steps low) at within) (rw (drives-meet steps low) at walks) in
+      let t = put {R = without R i} (omega arith) (without-others R i member j .1 (h, λ o. g (sym o))) (omega arith) f p (rw (drives-meet steps low) at within) (rw (drives-meet steps low) at walks) in
       record {
         others = i ∷ t .others;
         finishes = meet {c = riderWeightOf q j * d + c} {steps = t .others} e (riderWeightOf q j * d + rest) member walked (t .finishes) (omega arith);

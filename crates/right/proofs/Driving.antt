@@ -1,19 +1,21 @@
--- A plan is a route with a position for each rider.
-use Prim.Native.Nat.{ℕ, zero, suc, _+_, _-_, _*_, _/_, _%_, _^_, _<_, _≤_}
+-- What a finish drives, whom it meets where, and what it costs.
+use Prim.Native.Nat.{ℕ, zero, suc, _+_, _-_, _*_, _^_, _<_, _≤_}
 use mathlib.Core.Path.{_≡_, refl, sym, ap, _∙_}
+use mathlib.Core.Logic.{_≢_}
 use mathlib.Core.List.{List}
 use lib.ListN.{length}
-use native.Mathlib.Nat.{mul-add, mul-zero, zero-div}
+use native.Mathlib.Nat.{mul-add, mul-zero}
 use native.Mathlib.Decide.{ℕ-discrete}
 use native.Mathlib.Omega.{arith}
 use Rattle.rules.specs.Request.{riderWeightOf}
 use Rattle.rules.specs.Walks.{Way, arrived, along}
 use Rattle.rules.specs.Routes.{Drivable, RiderWalks, nodeAt, sum}
-use Rattle.rules.specs.Plans.{Has, without, Finish, arrive, meet, drive}
+use Rattle.rules.specs.Plans.{Has, Finish, arrive, meet, drive}
 use Rattle.rules.specs.declared.Request.{Request}
 use Rattle.rules.proofs.WalkLaws.{way-sum, distance-unique}
 use Rattle.right.specs.Steps.{drivesOf, metAt, timesMet}
-use Rattle.right.proofs.Sets.{none-has, has-below, without-other, without-same, first-has, first-without, first-small}
+use Rattle.finish.proofs.Sets.{none-has, has-below, without-others, all-have}
+use Rattle.right.proofs.Sets.{first-without, first-small}
 use Rattle.right.proofs.Steps.{drives-meet, drives-drive, times-here, times-other}
 use Rattle.right.proofs.Adding.{added-drives, added-at, added-other, take}
 
@@ -43,19 +45,22 @@ module _ {network : List ℕ} {q : Request} where
         paid = λ none. omega (arith, t .paid none, mul-add (q .weight) w (t .driving));
       }
 
-  -- Each rider of R is met once, and no other.
-  pub times-met : {R v c : ℕ} {steps : List ℕ} (j : ℕ) → j < 8 → Finish network q R v steps c → timesMet j steps ≡ R / 2 ^ j % 2
+  -- Each rider of R, and no other, is met once.
+  pub met-never : {R v c : ℕ} {steps : List ℕ} (j : ℕ) → j < 8 → ¬ Has R j → Finish network q R v steps c → timesMet j steps ≡ 0
   unfolding timesMet
-  times-met j rider (arrive e t z) = rw e (omega (arith, zero-div (2 ^ j)))
-  times-met {R} j rider (meet {j = i} {steps = steps} d rest has walks f e) = elim (ℕ-discrete i j) [
-    | yes same ↦ (
-        let none : without R i / 2 ^ j % 2 ≡ 0 = rw (← same) (without-same R i has) in
-        let one : R / 2 ^ j % 2 ≡ 1 = rw (← same) has in
-        times-here steps same ∙ ap suc (times-met j rider f ∙ none) ∙ sym one
-        )
-    | no g ↦ times-other steps g ∙ times-met j rider f ∙ without-other R j i has (λ o. g (sym o))
+  met-never j rider lacks (arrive e t z) = refl
+  met-never {R} j rider lacks (meet {j = i} {steps = steps} d rest has walks f e) =
+      let other : i ≢ j = λ o. lacks (rw o at has) in
+      times-other steps other ∙ met-never j rider (λ h. lacks (without-others R i has j .0 h .0)) f
+  met-never j rider lacks (drive {step = step} {steps = steps} k x w rest s link f e) = times-other {step = step} steps (omega arith) ∙ met-never j rider lacks f
+
+  pub met-once : {R v c : ℕ} {steps : List ℕ} (j : ℕ) → j < 8 → Has R j → Finish network q R v steps c → timesMet j steps ≡ 1
+  met-once j rider h (arrive e t z) = absurd (none-has j (rw e at h))
+  met-once {R} j rider h (meet {j = i} {steps = steps} d rest has walks f e) = elim (ℕ-discrete i j) [
+    | yes same ↦ times-here steps same ∙ ap suc (met-never j rider (λ g. without-others R i has j .0 g .1 (sym same)) f)
+    | no g ↦ times-other steps g ∙ met-once j rider (without-others R i has j .1 (h, λ o. g (sym o))) f
   ]
-  times-met j rider (drive {step = step} {steps = steps} k x w rest s link f e) = times-other {step = step} steps (omega arith) ∙ times-met j rider f
+  met-once j rider h (drive {step = step} {steps = steps} k x w rest s link f e) = times-other {step = step} steps (omega arith) ∙ met-once j rider h f
 
   -- Rider j is met at a position of the route, and has a walking distance to its node.
   pub met-within : {R v c : ℕ} {steps : List ℕ} (j : ℕ) → R < 2 ^ 7 → Has R j → Finish network q R v steps c → metAt j steps ≤ length (drivesOf steps)
@@ -80,7 +85,7 @@ module _ {network : List ℕ} {q : Request} where
       let t = driven (omega arith) f in
       rw (← way-sum (t .way) way) (omega (arith, t .paid refl))
   met-cost (suc l) {v} {c} {driving} walking h f way walks =
-      let t = take (first-small (suc l) h) (first-has (suc l) l (omega arith)) f in
+      let t = take (first-small (suc l) h) (all-have (suc l) l .1 (omega arith)) f in
       let rider : l < 8 = omega arith in
       let drives = added-drives rider (t .added) in
       let rest = met-cost l walking (omega arith) (rw (first-without l) at (t .finishes)) (rw drives at way) (λ j g. rw (drives, added-other rider {i = j} (omega arith) (omega arith) (t .added)) at (walks j (omega arith))) in

@@ -4,16 +4,19 @@ use mathlib.Core.Path.{_≡_, refl, ap}
 use mathlib.Core.Logic.{inl, inr, _↔_}
 use mathlib.Core.List.{List, [], _∷_, _++_, append-nil, append-assoc}
 use lib.ListN.{length, length-append}
-use native.Mathlib.Nat.{one-le-pow, pow-le-pow-right}
 use native.Mathlib.Decide.{decLt}
 use native.Mathlib.Omega.{arith}
+use lib.Pow.{pow-mono, pow-pos}
 use Rattle.rules.specs.Network.{nodeCount, SoundNetwork}
 use Rattle.rules.specs.Request.{SoundValue}
-use Rattle.rules.specs.Plans.{allRiders, Finish, arrive, meet, drive, NoLater, RightPlan}
+use Rattle.rules.specs.Plans.{allRiders, Finish, arrive, meet, drive, NoLater, Best, RightPlan}
 use Rattle.rules.specs.Rooms.{noFinish, HasFinish}
 use Rattle.rules.specs.declared.Request.{Request}
+use Rattle.finish.specs.Packed.{packedStep}
+use Rattle.finish.proofs.Sets.{has-below}
+use Rattle.finish.proofs.Packing.{packed}
+use Rattle.finish.proofs.Bounds.{least-holds, best-bounded}
 use Rattle.right.specs.Reading.{Tabled, Step, meets, drives, Tight, Next, First, planValue, Reading}
-use Rattle.right.proofs.Sets.{has-below}
 
 -- A finish taken apart into its first step and the finish behind it.
 record Begun (network : List ℕ) (q : Request) (R v step : ℕ) (steps : List ℕ) (cost : ℕ) : Type 0 where
@@ -48,32 +51,32 @@ module _ {network : List ℕ} {q : Request} where
 
     module _ (value : SoundValue (nodeCount network) q) {T : ℕ → ℕ → ℕ} (table : Tabled network q T) where
       all-below : allRiders q < 2 ^ q .count
-      all-below = omega (arith, one-le-pow (q .count) 2 (omega arith))
+      all-below = omega (arith, pow-pos (q .count))
 
       -- No step with the value where it leads undercuts the value here.
-      relaxed : {R v step S x c : ℕ} → Step network q R v step S x c → R < 2 ^ q .count → v < nodeCount network → T R v ≤ 4096 * c + 1 + T S x
+      relaxed : {R v step S x c : ℕ} → Step network q R v step S x c → R < 2 ^ q .count → v < nodeCount network → T R v ≤ packedStep c + T S x
       relaxed {R} {v} {step} {S} {x} {c} s h g = elim (decLt (T S x) noFinish) [
         | yes l ↦ (
             let (i, j) = step-inside s h g in
-            let p = table .least S x i j .met l in
-            omega (arith, table .least R v h g .lowest (4096 * (c + p .cost) + suc (length (p .steps))) (record { steps = step ∷ p .steps; cost = c + p .cost; finishes = go-on s (p .finishes); packs = refl }), p .packs)
+            let p = table S x i j .met l in
+            omega (arith, table R v h g .lowest _ (packed (go-on s (p .finishes))), p .packs)
             )
-        | no l ↦ omega (arith, table .least R v h g .capped)
+        | no l ↦ omega (arith, table R v h g .capped)
       ]
 
       -- The first step of a finish of the value here is tight, and what follows has the value where it leads.
       begun-tight : {R v step c : ℕ} {steps : List ℕ} → R < 2 ^ q .count → v < nodeCount network → T R v ≡ 4096 * c + suc (length steps) → (o : Begun network q R v step steps c) → Tight network q T R v step (o .S) (o .x) × (T (o .S) (o .x) ≡ 4096 * o .rest + length steps)
       begun-tight {steps = steps} h g e o =
           let (i, j) = step-inside (o .leads) h g in
-          let low = table .least (o .S) (o .x) i j .lowest (4096 * o .rest + length steps) (record { steps = steps; cost = o .rest; finishes = o .finishes; packs = refl }) in
+          let low = table (o .S) (o .x) i j .lowest _ (packed (o .finishes)) in
           let high = relaxed (o .leads) h g in
           (record { cost = o .here; leads = o .leads; tight = omega arith }, omega arith)
 
       -- The value is 0 exactly where all is done.
       pub done : {R v : ℕ} → R < 2 ^ q .count → v < nodeCount network → (T R v ≡ 0) ↔ ((R ≡ 0) × (v ≡ q .target))
       done {R} {v} h g = (
-        (λ e. let p = table .least R v h g .met (omega arith) in empty (p .steps) (p .finishes) (omega (arith, p .packs))),
-        λ (r, t). omega (arith, table .least R v h g .lowest 0 (record { steps = []; cost = 0; finishes = arrive r t refl; packs = refl })),
+        (λ e. let p = table R v h g .met (omega arith) in empty (p .steps) (p .finishes) (omega (arith, p .packs))),
+        λ (r, t). omega (arith, table R v h g .lowest _ (packed (arrive {c = 0} r t refl))),
       )
         where
           empty : {c : ℕ} (steps : List ℕ) → Finish network q R v steps c → length steps ≡ 0 → (R ≡ 0) × (v ≡ q .target)
@@ -82,7 +85,7 @@ module _ {network : List ℕ} {q : Request} where
 
       -- Where a value is neither none nor 0, some step is tight: the first of a finish of this value.
       pub some-tight : {R v : ℕ} → R < 2 ^ q .count → v < nodeCount network → T R v < noFinish → 0 < T R v → (step S x : ℕ) × Tight network q T R v step S x
-      some-tight {R} {v} h g l some = let p = table .least R v h g .met l in start (p .steps) (p .finishes) (p .packs)
+      some-tight {R} {v} h g l some = let p = table R v h g .met l in start (p .steps) (p .finishes) (p .packs)
         where
           start : {c : ℕ} (steps : List ℕ) → Finish network q R v steps c → T R v ≡ 4096 * c + length steps → (step S x : ℕ) × Tight network q T R v step S x
           start [] (arrive r t z) e = absurd (omega arith)
@@ -104,7 +107,7 @@ module _ {network : List ℕ} {q : Request} where
           }
         where
           small : R < 2 ^ 7
-          small = omega (arith, pow-le-pow-right {n = 2} (omega arith) (value .riders))
+          small = omega (arith, pow-mono {i = q .count} {j = 7} (value .riders))
 
           behind-step : {s c : ℕ} {other : List ℕ} → T R v ≡ 4096 * c + suc (length other) → Begun network q R v s other c → NoLater (step ∷ steps) (s ∷ other)
           behind-step {s} {other = other} e o =
@@ -122,40 +125,33 @@ module _ {network : List ℕ} {q : Request} where
           first [] c (arrive r t z) e = absurd (omega (arith, next .tight .tight))
           first (s ∷ other) c f e = behind-step e (begun f)
 
-      -- The value of a best finish gives its cost and number of steps back.
-      best-packs : {R v : ℕ} → R < 2 ^ q .count → v < nodeCount network → T R v < noFinish → (b : HasFinish network q R v (T R v)) × (length (b .steps) < 4096)
-      best-packs {R} {v} h g l = elim (table .holds R v h g) [
-        | inl b ↦ (b, table .few R v h g (b .best))
+      best-finish : {R v : ℕ} → R < 2 ^ q .count → v < nodeCount network → T R v < noFinish → (b : HasFinish network q R v (T R v)) × (length (b .steps) ≤ 4095)
+      best-finish {R} {v} h g l = elim (least-holds sound value h g (table R v h g)) [
+        | inl b ↦ (b, best-bounded sound value h g (b .best) .few)
         | inr none ↦ absurd (omega arith)
       ]
 
       tight-count : {R v step S x : ℕ} → R < 2 ^ q .count → v < nodeCount network → T R v < noFinish → Tight network q T R v step S x → T R v % 4096 ≡ suc (T S x % 4096)
       tight-count {step = step} h g l t =
           let (i, j) = step-inside (t .leads) h g in
-          let (here, few) = best-packs h g l in
-          let (there, short) = best-packs i j (omega (arith, t .tight)) in
+          let (here, few) = best-finish h g l in
+          let (there, short) = best-finish i j (omega (arith, t .tight)) in
           omega (arith, t .tight, here .packs, there .packs, here .best .cheapest (step ∷ there .steps) (t .cost + there .cost) (go-on (t .leads) (there .best .finishes)))
 
       -- What finishes first from the source is the right plan. A best plan has the same value and fewer than 4,096 steps, and is not dearer, so the two cost the same and have as many steps.
       first-right : {steps : List ℕ} → First network q (allRiders q) (q .source) (planValue q T) steps → RightPlan network q steps (planValue q T / 4096) × (planValue q T % 4096 ≡ length steps)
-      first-right {steps} f = elim (table .holds (allRiders q) (q .source) all-below (value .starts)) [
+      first-right {steps} f = elim (least-holds sound value all-below (value .starts) (table (allRiders q) (q .source) all-below (value .starts))) [
         | inl b ↦ (
-            let few = table .few (allRiders q) (q .source) all-below (value .starts) (b .best) in
+            let few = best-bounded sound value all-below (value .starts) (b .best) .few in
             let cheap = b .best .cheapest steps (f .cost) (f .finishes) in
             let same : f .cost ≡ b .cost = omega (arith, f .packs, b .packs) in
-            let cost : planValue q T / 4096 ≡ f .cost = omega (arith, f .packs, b .packs) in (
-              rw cost (
-                  record {
-                    best = record {
-                      finishes = f .finishes;
-                      cheapest = λ other c g. omega (arith, b .best .cheapest other c g);
-                      fewest = λ other g. omega (arith, b .best .fewest other (rw same at g), f .packs, b .packs);
-                    };
-                    first = λ other g l. f .first other (f .cost) g (omega (arith, f .packs));
-                  }
-                  ),
-              omega (arith, f .packs, b .packs),
-            )
+            let cost : planValue q T / 4096 ≡ f .cost = omega (arith, f .packs, b .packs) in
+            let best : Best network q (allRiders q) (q .source) steps (f .cost) = record {
+              finishes = f .finishes;
+              cheapest = λ other c g. omega (arith, b .best .cheapest other c g);
+              fewest = λ other g. omega (arith, b .best .fewest other (rw same at g), f .packs, b .packs);
+            } in
+            (rw cost (record { best = best; first = λ other g l. f .first other (f .cost) g (omega (arith, f .packs)) }), omega (arith, f .packs, b .packs))
             )
         | inr none ↦ absurd (none .0 steps (f .cost) (f .finishes))
       ]

@@ -10,8 +10,9 @@ use Rattle.rules.specs.Routes.{RiderWalks, nodeAt, Meeting, Price}
 use Rattle.rules.specs.Plans.{Plan, RightPlan, NoLater}
 use Rattle.rules.specs.declared.Request.{Request}
 use Rattle.rules.proofs.WalkLaws.{distance-unique}
+use Rattle.finish.proofs.Sets.{all-have}
 use Rattle.right.specs.Steps.{drivesOf, metAt, positionsOf, SumAt}
-use Rattle.right.proofs.Sets.{first-has, first-small}
+use Rattle.right.proofs.Sets.{first-small}
 use Rattle.right.proofs.Steps.{position-at}
 use Rattle.right.proofs.Adding.{added-length, added-drives, added-at, take, put}
 use Rattle.right.proofs.Routes.{plan-sum}
@@ -35,7 +36,7 @@ module _ {network : List ℕ} {q : Request} where
   moved {steps} {cost} {p} {d} {e} j riders h f walked within walks =
       let rider : j < 8 = omega arith in
       let small = first-small (q .count) riders in
-      let has = first-has (q .count) j h in
+      let has = all-have (q .count) j .1 h in
       let t = take small has f in
       let drives = added-drives rider (t .added) in
       let place = added-at rider (t .added) in

@@ -13,12 +13,13 @@ use Rattle.rules.specs.Routes.{Drivable, Route, RiderWalks, nodeAt, sum, Price}
 use Rattle.rules.specs.Plans.{driveStep, Finish, arrive, drive, Plan, RightPlan, NoPlan}
 use Rattle.rules.specs.declared.Request.{Request}
 use Rattle.rules.proofs.WalkLaws.{way-sum}
-use Rattle.right.specs.Steps.{drivesOf, metAt, timesMet, SumAt, Along, NoDrive}
+use Rattle.finish.proofs.Sets.{all-have}
+use Rattle.right.specs.Steps.{drivesOf, metAt, SumAt, Along, NoDrive}
 use Rattle.right.proofs.Below.{chosen, not-missing, sum-least}
-use Rattle.right.proofs.Sets.{first-has, first-lacks, first-without, first-small}
+use Rattle.right.proofs.Sets.{first-without, first-small}
 use Rattle.right.proofs.Steps.{drives-drive}
 use Rattle.right.proofs.Adding.{added-length, added-drives, added-at, added-other, Put, put}
-use Rattle.right.proofs.Driving.{driven, times-met, met-within, met-walks, met-cost}
+use Rattle.right.proofs.Driving.{driven, met-within, met-walks, met-cost}
 
 -- the steps that drive a route and meet nobody
 drives-map : (route : List ℕ) → drivesOf (map driveStep route) ≡ route
@@ -67,7 +68,7 @@ module _ {network : List ℕ} {q : Request} where
       }
   along-first {route = route} position walking (suc l) small way within walks =
       let t = along-first position walking l (omega arith) way (λ j h. within j (omega arith)) (λ j h. walks j (omega arith)) in
-      let p = put {d = walking l} (first-small (suc l) small) (first-has (suc l) l (omega arith)) (sym (first-without l)) (t .finishes) (position l) (rw (t .drives) (within l (omega arith))) (rw (t .drives) (walks l (omega arith))) in
+      let p = put {d = walking l} (first-small (suc l) small) (all-have (suc l) l .1 (omega arith)) (sym (first-without l)) (t .finishes) (position l) (rw (t .drives) (within l (omega arith))) (rw (t .drives) (walks l (omega arith))) in
       subst (Along network q (suc l) route position) (omega arith) (along-more (omega arith) t p)
 
   -- Taken at any positions the sum is at least the price, since each rider walks at least as far as to the nearest position.
@@ -81,24 +82,17 @@ module _ {network : List ℕ} {q : Request} where
   price-sum p = record { driving = p .driving; walking = p .walking; drives = p .drives; within = λ j h. p .meets j h .within; walks = λ j h. p .meets j h .walks; adds = p .adds }
 
   module _ (riders : q .count ≤ 7) where
-    -- Each of the riders, and no other, is met once.
-    pub met-once : {steps : List ℕ} {cost : ℕ} (j : ℕ) → j < q .count → Plan network q steps cost → timesMet j steps ≡ 1
-    met-once j h f = times-met j (omega arith) f ∙ first-has (q .count) j h
-
-    pub met-never : {steps : List ℕ} {cost : ℕ} (j : ℕ) → q .count ≤ j → j < 8 → Plan network q steps cost → timesMet j steps ≡ 0
-    met-never j h g f = times-met j g f ∙ first-lacks (q .count) j h
-
     -- The drive steps of a plan are a route. Each rider is met at a position of it, and the plan's cost is the sum taken there.
     pub plan-sum : {steps : List ℕ} {cost : ℕ} → Plan network q steps cost → SumAt network q (drivesOf steps) (λ j. metAt j steps) cost
     plan-sum {steps} f =
         let small = first-small (q .count) riders in
         let t = driven small f in
-        let (walking, walks) = chosen (q .count) 0 {P = λ j d. RiderWalks network q j (nodeAt network (q .source) (drivesOf steps) (metAt j steps)) d} (λ j h. met-walks j small (first-has (q .count) j h) f) in
+        let (walking, walks) = chosen (q .count) 0 {P = λ j d. RiderWalks network q j (nodeAt network (q .source) (drivesOf steps) (metAt j steps)) d} (λ j h. met-walks j small (all-have (q .count) j .1 h) f) in
         record {
           driving = t .driving;
           walking = walking;
           drives = t .way;
-          within = λ j h. met-within j small (first-has (q .count) j h) f;
+          within = λ j h. met-within j small (all-have (q .count) j .1 h) f;
           walks = walks;
           adds = met-cost (q .count) walking riders f (t .way) walks;
         }

@@ -6,17 +6,15 @@ use lib.ListN.{length}
 use Rattle.rules.specs.Network.{nodeCount}
 use Rattle.rules.specs.Request.{riderWeightOf}
 use Rattle.rules.specs.Routes.{Drivable, RiderWalks}
-use Rattle.rules.specs.Plans.{Has, without, allRiders, driveStep, Finish, NoLater, Best}
-use Rattle.rules.specs.Rooms.{noFinish, HoldsFinish}
+use Rattle.rules.specs.Plans.{Has, without, allRiders, driveStep, Finish, NoLater}
+use Rattle.rules.specs.Rooms.{noFinish}
 use Rattle.rules.specs.declared.Request.{Request}
 use Rattle.least.specs.Least.{Least}
-use Rattle.finish.specs.Packed.{Packed}
+use Rattle.finish.specs.Packed.{Packed, packedStep}
 
--- A table T: each place has the least packed value of the finishes from there, which is that of a best finish, and best finishes have fewer than 4,096 steps.
-pub record Tabled (network : List ℕ) (q : Request) (T : ℕ → ℕ → ℕ) : Type 0 where
-  pub least : (R v : ℕ) → R < 2 ^ q .count → v < nodeCount network → Least noFinish (Packed network q R v) (T R v)
-  pub holds : (R v : ℕ) → R < 2 ^ q .count → v < nodeCount network → HoldsFinish network q R v (T R v)
-  pub few : (R v : ℕ) {steps : List ℕ} {cost : ℕ} → R < 2 ^ q .count → v < nodeCount network → Best network q R v steps cost → length steps < 4096
+-- A table whose places have the least packed values of the finishes from there.
+abbrev pub Tabled : List ℕ → Request → (ℕ → ℕ → ℕ) → Type 0
+Tabled network q T = (R v : ℕ) → R < 2 ^ q .count → v < nodeCount network → Least noFinish (Packed network q R v) (T R v)
 
 -- With R still to be met, the step leads from v to x at the cost, and leaves S to be met.
 pub data Step (network : List ℕ) (q : Request) (R v step S x cost : ℕ) : Type 0 where
@@ -27,7 +25,7 @@ pub data Step (network : List ℕ) (q : Request) (R v step S x cost : ℕ) : Typ
 pub record Tight (network : List ℕ) (q : Request) (T : ℕ → ℕ → ℕ) (R v step S x : ℕ) : Type 0 where
   pub cost : ℕ
   pub leads : Step network q R v step S x cost
-  pub tight : T R v ≡ 4096 * cost + 1 + T S x
+  pub tight : T R v ≡ packedStep cost + T S x
 
 -- the lowest tight step
 pub record Next (network : List ℕ) (q : Request) (T : ℕ → ℕ → ℕ) (R v step S x : ℕ) : Type 0 where
