@@ -1,0 +1,62 @@
+-- What a list of steps says with one step more in front, and the list of its positions.
+use Prim.Native.Nat.{ℕ, zero, suc, _+_, _-_, _<_, _≤_}
+use mathlib.Core.Path.{_≡_, refl, ap}
+use mathlib.Core.Logic.{_≢_}
+use mathlib.Core.List.{List, _∷_}
+use lib.ListN.{length, getD}
+use native.Mathlib.Nat.{add-zero}
+use native.Mathlib.Omega.{arith}
+use borrow.Author.Tests.{lt-ltb, le-ltb, eq-eqb, ne-eqb}
+use Rattle.rules.specs.Routes.{Drivable, nodeAt}
+use Rattle.rules.specs.Plans.{driveStep}
+use Rattle.right.specs.Steps.{drivesOf, metAt, timesMet, positionsFrom}
+
+module _ {step : ℕ} (steps : List ℕ) where
+  pub drives-meet : step < 8 → drivesOf (step ∷ steps) ≡ drivesOf steps
+  unfolding drivesOf
+  drives-meet h = rw (lt-ltb step 8 h)
+
+  pub drives-drive : 8 ≤ step → drivesOf (step ∷ steps) ≡ (step - 8) ∷ drivesOf steps
+  unfolding drivesOf
+  drives-drive h = rw (le-ltb step 8 h)
+
+  module _ {j : ℕ} where
+    pub met-here : step ≡ j → metAt j (step ∷ steps) ≡ 0
+    unfolding metAt
+    met-here e = rw (eq-eqb step j e)
+
+    pub met-meet : step ≢ j → step < 8 → metAt j (step ∷ steps) ≡ metAt j steps
+    unfolding metAt
+    met-meet g h = simp (ne-eqb step j g, lt-ltb step 8 h)
+
+    pub met-drive : step ≢ j → 8 ≤ step → metAt j (step ∷ steps) ≡ suc (metAt j steps)
+    unfolding metAt
+    met-drive g h = simp (ne-eqb step j g, le-ltb step 8 h)
+
+    pub times-here : step ≡ j → timesMet j (step ∷ steps) ≡ suc (timesMet j steps)
+    unfolding timesMet
+    times-here e = rw (eq-eqb step j e)
+
+    pub times-other : step ≢ j → timesMet j (step ∷ steps) ≡ timesMet j steps
+    unfolding timesMet
+    times-other g = rw (ne-eqb step j g)
+
+-- The position behind a drive step is the position before it of the steps from that link's end on.
+pub node-drive : {network : List ℕ} {k v x w step : ℕ} (steps : List ℕ) (position : ℕ) → step ≡ driveStep k → Drivable network k v x w → nodeAt network v (drivesOf (step ∷ steps)) (suc position) ≡ nodeAt network x (drivesOf steps) position
+unfolding nodeAt
+node-drive {k = k} {step = step} steps position s link =
+    let e : step - 8 ≡ k = omega arith in
+    simp (drives-drive {step = step} steps (omega arith), e, link .ends)
+
+pub positions-length : (count first : ℕ) (steps : List ℕ) → length (positionsFrom count first steps) ≡ count
+unfolding positionsFrom
+positions-length zero first steps = refl
+positions-length (suc count) first steps = ap suc (positions-length count (suc first) steps)
+
+pub position-at : (count first j : ℕ) (steps : List ℕ) → j < count → getD (positionsFrom count first steps) j 0 ≡ metAt (first + j) steps
+unfolding positionsFrom
+position-at zero first j steps h = absurd (omega arith)
+position-at (suc count) first zero steps h = rw add-zero
+position-at (suc count) first (suc j) steps h =
+    let e : first + suc j ≡ suc first + j = omega arith in
+    rw e (position-at count (suc first) j steps (omega arith))
