@@ -38,9 +38,28 @@ pub record Walked (network : List ℕ) (start : ℕ) (before after : List ℕ) (
 -- How a route is priced, once the verdict on all that can be read off the records and the route is known: the answer, and the meeting positions that it comes with.
 -- 37: pricing: a rider reaches no position (place: lowest rider)
 pub data Pricing (verdict : Verdict) (network : List ℕ) (q : Request) (route : List ℕ) (answer : Priced) (meetings : List ℕ) : Type 0 where
-  refused : (r : Refusal) → verdict ≡ NotAccepted r → answer ≡ NotPriced r → meetings ≡ [] → Pricing verdict network q route answer meetings
-  stranded : (j : ℕ) → verdict ≡ Accepted → j < q .count → Stranded network q route j → ((i : ℕ) → i < j → Stranded network q route i → ⊥) → answer ≡ NotPriced (refuse 37 j) → meetings ≡ [] → Pricing verdict network q route answer meetings
-  priced : (price : ℕ) → verdict ≡ Accepted → Price network q route meetings price → length meetings ≡ q .count → answer ≡ Costs price → Pricing verdict network q route answer meetings
+  refused :
+      (r : Refusal)
+      → verdict ≡ NotAccepted r
+      → answer ≡ NotPriced r
+      → meetings ≡ []
+      → Pricing verdict network q route answer meetings
+  stranded :
+      (j : ℕ)
+      → verdict ≡ Accepted
+      → j < q .count
+      → Stranded network q route j
+      → ((i : ℕ) → i < j → Stranded network q route i → ⊥)
+      → answer ≡ NotPriced (refuse 37 j)
+      → meetings ≡ []
+      → Pricing verdict network q route answer meetings
+  priced :
+      (price : ℕ)
+      → verdict ≡ Accepted
+      → Price network q route meetings price
+      → length meetings ≡ q .count
+      → answer ≡ Costs price
+      → Pricing verdict network q route answer meetings
 
 -- 31: pricing: meeting slice under l
 abbrev pub priceChecks : List ℕ → List ℕ → List ℕ → ℕ → List Check
@@ -100,8 +119,23 @@ pub record Lent : Type 0 where
 -- 24: search: no plan exists
 pub data Searching (verdict : Verdict) (network : List ℕ) (q : Request) (before after : Lent) (answer : Planned) : Type 0 where
   refused : (r : Refusal) → verdict ≡ NotAccepted r → answer ≡ NotPlanned r → after ≡ before → Searching verdict network q before after answer
-  hopeless : verdict ≡ Accepted → Distances network q (before .distances) (after .distances) → Table network q (before .table) (after .table) → NoPlan network q → answer ≡ NotPlanned (refuse 24 0) → after .steps ≡ before .steps → Searching verdict network q before after answer
-  planned : (plan : List ℕ) (cost : ℕ) → verdict ≡ Accepted → Distances network q (before .distances) (after .distances) → Table network q (before .table) (after .table) → RightPlan network q plan cost → answer ≡ Found cost (length plan) → Written plan (before .steps) (after .steps) → Searching verdict network q before after answer
+  hopeless :
+      verdict ≡ Accepted
+      → Distances network q (before .distances) (after .distances)
+      → Table network q (before .table) (after .table)
+      → NoPlan network q
+      → answer ≡ NotPlanned (refuse 24 0)
+      → after .steps ≡ before .steps
+      → Searching verdict network q before after answer
+  planned :
+      (plan : List ℕ) (cost : ℕ)
+      → verdict ≡ Accepted
+      → Distances network q (before .distances) (after .distances)
+      → Table network q (before .table) (after .table)
+      → RightPlan network q plan cost
+      → answer ≡ Found cost (length plan)
+      → Written plan (before .steps) (after .steps)
+      → Searching verdict network q before after answer
 
 abbrev pub Searched : List ℕ → List ℕ → Lent → Lent → Planned → Type 0
 Searched network request before after answer =

@@ -24,9 +24,26 @@ driveStep k = 8 + k
 
 -- A finish from v to the target that meets exactly the riders R, and its cost. "The drive steps, in order, form a route. Each of the l riders, and no other, is met once, at a node to which that rider has a walking distance. Its cost is that sum, taken at the nodes named."
 pub data Finish (network : List ℕ) (q : Request) : ℕ → ℕ → List ℕ → ℕ → Type 0 where
-  arrive : {R v c : ℕ} → R ≡ 0 → v ≡ q .target → c ≡ 0 → Finish network q R v [] c
-  meet : {R v j c : ℕ} {steps : List ℕ} (d rest : ℕ) → Has R j → RiderWalks network q j v d → Finish network q (without R j) v steps rest → c ≡ riderWeightOf q j * d + rest → Finish network q R v (j ∷ steps) c
-  drive : {R v step c : ℕ} {steps : List ℕ} (k x w rest : ℕ) → step ≡ driveStep k → Drivable network k v x w → Finish network q R x steps rest → c ≡ q .weight * w + rest → Finish network q R v (step ∷ steps) c
+  arrive :
+      {R v c : ℕ}
+      → R ≡ 0
+      → v ≡ q .target
+      → c ≡ 0
+      → Finish network q R v [] c
+  meet :
+      {R v j c : ℕ} {steps : List ℕ} (d rest : ℕ)
+      → Has R j
+      → RiderWalks network q j v d
+      → Finish network q (without R j) v steps rest
+      → c ≡ riderWeightOf q j * d + rest
+      → Finish network q R v (j ∷ steps) c
+  drive :
+      {R v step c : ℕ} {steps : List ℕ} (k x w rest : ℕ)
+      → step ≡ driveStep k
+      → Drivable network k v x w
+      → Finish network q R x steps rest
+      → c ≡ q .weight * w + rest
+      → Finish network q R v (step ∷ steps) c
 
 -- "A plan is a list of 16-bit steps."
 abbrev pub Plan : List ℕ → Request → List ℕ → ℕ → Type 0

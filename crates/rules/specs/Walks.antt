@@ -16,7 +16,12 @@ pub record Leads (network : List ℕ) (cost : ℕ → ℕ) (k u v w : ℕ) : Typ
 -- The links, one behind the other, lead from u to v, and their costs add up to c: the first starts at u, each next starts where the last ended, the last ends at v. No link at all leads from a node to itself, at 0.
 pub data Way (Link : ℕ → ℕ → ℕ → ℕ → Type 0) (v : ℕ) : ℕ → List ℕ → ℕ → Type 0 where
   arrived : {u c : ℕ} → u ≡ v → c ≡ 0 → Way Link v u [] c
-  along : {u c k : ℕ} {links : List ℕ} (x w rest : ℕ) → Link k u x w → Way Link v x links rest → c ≡ w + rest → Way Link v u (k ∷ links) c
+  along :
+      {u c k : ℕ} {links : List ℕ} (x w rest : ℕ)
+      → Link k u x w
+      → Way Link v x links rest
+      → c ≡ w + rest
+      → Way Link v u (k ∷ links) c
 
 -- "A walk runs along links open to walkers, from `from` to `to`."
 abbrev pub Walkable : List ℕ → ℕ → ℕ → ℕ → ℕ → Type 0
