@@ -1,0 +1,2 @@
+-- Networks that agree in part.
+pub mod Alike
