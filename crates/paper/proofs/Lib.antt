@@ -1,4 +1,7 @@
--- Laws of networks that agree in part.
+-- The price is the paper's, and rests on the costs that it should rest on.
+pub mod TwoWay
+pub mod Average
+pub mod Definition
 pub mod Ways
 pub mod Distances
 pub mod Alike

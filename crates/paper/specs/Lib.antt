@@ -1,2 +1,5 @@
--- Networks that agree in part.
+-- The problem of source document 000, the networks and requests that it is about, and networks that agree in part.
+pub mod Fraction
+pub mod Problem
+pub mod TwoWay
 pub mod Alike
