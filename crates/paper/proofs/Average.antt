@@ -1,9 +1,7 @@
 -- With α = a/(a+w), (a+w) times α × c + (1 - α) × d is a × c + w × d.
 use Prim.Native.Nat.{ℕ, zero, suc, _+_, _*_, _≤_, _<_}
-use mathlib.Core.Path.{_≡_, refl, _∙_, ap₂}
-use mathlib.Core.Logic.{_↔_}
+use mathlib.Core.Path.{_≡_}
 use native.Mathlib.Nat.{add-mul, mul-add, mul-assoc, mul-zero, add-sub-cancel-left, mul-pos, mul-le-mul-right, le-of-mul-le-mul-right}
-use native.Mathlib.Omega.{arith}
 use Rattle.rules.specs.Routes.{sum}
 use Rattle.paper.specs.Fraction.{over, times, Is, AtMost}
 use Rattle.paper.specs.Problem.{average}

@@ -5,7 +5,6 @@ use mathlib.Core.Logic.{inl, inr, ⊎-elim}
 use mathlib.Core.List.{List, [], _∷_, List·Memᴰ, List·Memᴰ·head, List·Memᴰ·tail, List·Memᴰ·not-nil}
 use native.Mathlib.Omega.{arith}
 use lib.ListN.{length}
-use Rattle.rules.specs.Network.{walk}
 use Rattle.rules.specs.Walks.{Leads, Way, arrived, along, Walkable, WalkingDistance}
 use Rattle.rules.specs.Routes.{Drivable, nodeAt}
 use Rattle.paper.specs.Problem.{Path, stays, goes, Dist}
