@@ -41,7 +41,7 @@ module _ {P : ℕ → Type 0} (dec : (i : ℕ) → Dec (P i)) where
 
 module _ (network : List ℕ) (v : ℕ) where
   -- A walk from u to v of fewer than `most` links and a sum below b.
-  record Reaches (most u b : ℕ) : Type 0 where
+  record Short (most u b : ℕ) : Type 0 where
     sum : ℕ
     trip : Trip (Linked (Walkable network)) (At v) u sum
     few : arcCount trip < most
@@ -51,7 +51,7 @@ module _ (network : List ℕ) (v : ℕ) where
   record By (most u b k : ℕ) : Type 0 where
     starts : from network k ≡ u
     opened : walk network k < closed
-    rest : Reaches most (to network k) (b - walk network k)
+    rest : Short most (to network k) (b - walk network k)
 
   -- A walk of fewer than one link more has no link at all, or a first one.
   split : {most u b sum : ℕ} (t : Trip (Linked (Walkable network)) (At v) u sum) → arcCount t < suc most → sum < b → ((u ≡ v) × (0 < b)) ⊎ ((k : ℕ) × (k < linkCount network) × By most u b k)
@@ -69,11 +69,11 @@ module _ (network : List ℕ) (v : ℕ) where
         },
       )
 
-  here : {most u b : ℕ} → u ≡ v → 0 < b → Reaches (suc most) u b
+  here : {most u b : ℕ} → u ≡ v → 0 < b → Short (suc most) u b
   unfolding arcCount
   here e h = record { sum = 0; trip = done (e, refl); few = omega arith; below = h }
 
-  onward : {most u b k : ℕ} → k < linkCount network → By most u b k → Reaches (suc most) u b
+  onward : {most u b k : ℕ} → k < linkCount network → By most u b k → Short (suc most) u b
   unfolding arcCount
   onward {k = k} exists by =
       record {
@@ -89,7 +89,7 @@ module _ (network : List ℕ) (v : ℕ) where
     | no h ↦ no (λ p. h (p .0))
   ]
 
-  dec-by : {most b : ℕ} (u k : ℕ) → Dec (Reaches most (to network k) (b - walk network k)) → Dec (By most u b k)
+  dec-by : {most b : ℕ} (u k : ℕ) → Dec (Short most (to network k) (b - walk network k)) → Dec (By most u b k)
   dec-by u k dec = elim dec [
     | no h ↦ no (λ by. h (by .rest))
     | yes r ↦ elim (ℕ-discrete (from network k) u) [
@@ -98,7 +98,7 @@ module _ (network : List ℕ) (v : ℕ) where
     ]
   ]
 
-  dec-reaches : (most u b : ℕ) → Dec (Reaches most u b)
+  dec-reaches : (most u b : ℕ) → Dec (Short most u b)
   dec-reaches zero u b = no (λ r. omega (arith, r .few))
   dec-reaches (suc most) u b = elim (dec-here u b) [
     | yes h ↦ yes (here (h .0) (h .1))
@@ -123,7 +123,7 @@ module _ (network : List ℕ) (v : ℕ) where
     ]
   ]
     where
-      short : {sum b : ℕ} → Trip (Linked (Walkable network)) (At v) u sum → sum < b → Reaches (nodeCount network) u b
+      short : {sum b : ℕ} → Trip (Linked (Walkable network)) (At v) u sum → sum < b → Short (nodeCount network) u b
       short t below =
           let inside : Inside (nodeCount network) (Linked (Walkable network)) = λ u x w g a. omega (arith, sound .ends (a .0) (a .1 .exists)) in
           let s = shortened inside h t in

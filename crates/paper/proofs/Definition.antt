@@ -1,22 +1,38 @@
 -- The price of a route is (a+w) times the paper's f, and a route of least price is one that Definition 2.1 asks for.
-use Prim.Native.Nat.{ℕ, _+_, _*_, _≤_, _<_}
-use mathlib.Core.Path.{_≡_, refl, sym, _∙_, ap}
+use Prim.Native.Nat.{ℕ, zero, suc, _+_, _*_, _<_}
+use mathlib.Core.Path.{_≡_, refl, sym, _∙_, ap, ap₂, subst}
 use mathlib.Core.List.{List, _∷_}
+use native.Mathlib.Nat.{mul-add, mul-zero}
 use native.Mathlib.Omega.{arith}
 use Rattle.rules.specs.Network.{SoundNetwork, nodeCount}
 use Rattle.rules.specs.Request.{SoundValue, riderNodeOf, riderWeightOf}
-use Rattle.rules.specs.Routes.{nodeAt, RiderWalks, Meeting, sum, Price}
+use Rattle.rules.specs.Routes.{Route, nodeAt, RiderWalks, Meeting, sum, Price}
 use Rattle.rules.specs.declared.Request.{Request}
 use Rattle.rules.proofs.PriceLaws.{sum-same}
-use Rattle.paper.specs.Fraction.{Fraction, over, times, Is, AtMost}
-use Rattle.paper.specs.Problem.{NodeRoute, average, Cost, Optimal}
-use Rattle.paper.specs.TwoWay.{TwoWay, graphOf, EqualWeights, queryOf, nodesOf, PricedPath, NoLower}
+use Rattle.paper.specs.Fraction.{Fraction, times, Is, AtMost}
+use Rattle.paper.specs.Problem.{Graph, OneWeight, Path, stays, goes, NodeRoute, Query, average, Cost, Optimal}
+use Rattle.paper.specs.Prices.{HasPrice, NoLower}
+use Rattle.paper.specs.TwoWay.{TwoWay, graphOf, EqualWeights, queryOf, nodesOf, PricedPath}
+use Rattle.paper.proofs.Fraction.{average-is, le-at-most, at-most-le}
 use Rattle.paper.proofs.TwoWay.{passes, passed, drive-path, path-drive, distance-dist, dist-distance}
-use Rattle.paper.proofs.Average.{sum-times, average-is, average-le, le-average}
-use Rattle.paper.proofs.Near.{nearest, meet}
+use Rattle.paper.proofs.Prices.{nearest, meet}
+
+-- Where edges that join the same nodes have the same weight, a path has one f.
+path-unique : {G : Graph} {s t c e : ℕ} {P : List ℕ} → OneWeight G → Path G t s P c → Path G t s P e → c ≡ e
+path-unique one (stays _ c) (stays _ e) = cc
+path-unique one (goes w rest edge path c) (goes x other also way e) = cc (one _ _ w x edge also, path-unique one path way)
+
+near-unique : {G : Graph} {u d e : ℕ} {nodes : List ℕ} → NodeRoute G u nodes d → NodeRoute G u nodes e → d ≡ e
+near-unique a b = omega (arith, a .least _ _ (b .passed) (b .reached), b .least _ _ (a .passed) (a .reached))
+
+pub cost-unique : {G : Graph} {query : Query} {P : List ℕ} {f g : Fraction} → OneWeight G → Cost G query P f → Cost G query P g → f ≡ g
+cost-unique {query = query} one x y =
+    x .averages
+    ∙ ap₂ (average (query .alpha)) (path-unique one (x .path) (y .path)) (sum-same (query .l) (x .d) (y .d) (λ j h. near-unique (x .near j h) (y .near j h)))
+    ∙ sym (y .averages)
 
 module _ {network : List ℕ} (two : TwoWay network) {q : Request} {route : List ℕ} where
-  -- A rider's meeting position is at the distance of equation (1).
+  -- A rider's meeting position is at the distance of equation (1) ..
   meeting-near : {j position d : ℕ} → Meeting network q route j position d → NodeRoute (graphOf network) (riderNodeOf q j) (q .source ∷ nodesOf network route) d
   meeting-near {position = position} m =
       record {
@@ -28,78 +44,74 @@ module _ {network : List ℕ} (two : TwoWay network) {q : Request} {route : List
             m .least other e within (rw is at (dist-distance two far));
       }
 
+  -- .. and a rider at such a distance has a meeting position.
   near-meeting : {j d : ℕ} → SoundNetwork network → SoundValue (nodeCount network) q → j < q .count → NodeRoute (graphOf network) (riderNodeOf q j) (q .source ∷ nodesOf network route) d → (p : ℕ) × Meeting network q route j p d
   near-meeting {j} {d} sound value h near =
       let (position, within, is) = passed network (q .source) route (near .passed) in
       let walks : RiderWalks network q j (nodeAt network (q .source) route position) d = rw is at (dist-distance two (near .reached)) in
       let (e, found) = nearest sound value route h (record { position = position; within = within; distance = d; walks = walks }) in
       let (p, m) = found in
-      let same : e ≡ d = omega (arith, m .least position d within walks, near .least _ e (passes network (q .source) route p (m .within)) (distance-dist two (m .walks))) in
+      let same : e ≡ d = near-unique (meeting-near m) near in
       (p, rw same at m)
 
+-- a factor that all summands share
+sum-times : (w count : ℕ) (f : ℕ → ℕ) → sum count (λ j. w * f j) ≡ w * sum count f
+unfolding sum
+sum-times w zero f = rw mul-zero
+sum-times w (suc count) f = rw (mul-add, sum-times w count f)
+
 module _ {network : List ℕ} (two : TwoWay network) {q : Request} {w : ℕ} (weights : EqualWeights q w) where
-  -- f(P), of a path with this query
+  -- P is a path for the query, and f(P) is f.
   abbrev PathCost : List ℕ → Fraction → Type 0
   PathCost = Cost (graphOf network) (queryOf q w weights)
-
-  -- (a+w) × f(P), in whole numbers
-  abbrev worth : {P : List ℕ} {f : Fraction} → PathCost P f → ℕ
-  worth x = q .weight * x .c + w * sum (q .count) (x .d)
-
-  worth-is : {P : List ℕ} {f : Fraction} (x : PathCost P f) → Is (times f (q .weight + w)) (worth x)
-  worth-is x = rw (x .averages) (average-is (q .weight) w (x .c) (sum (q .count) (x .d)))
-
-  module _ {P R : List ℕ} {f g : Fraction} (x : PathCost P f) (y : PathCost R g) where
-    worth-le : worth x ≤ worth y → AtMost f g
-    worth-le h = rw (x .averages, y .averages) (average-le (q .weight) w (x .c) _ (y .c) _ h)
-
-    le-worth : AtMost f g → worth x ≤ worth y
-    le-worth h = le-average (q .weight) w (x .c) _ (y .c) _ (omega arith) (rw (x .averages, y .averages) at h)
 
   -- The riders' part of the price, with the one weight taken out.
   same-weight : (walking : ℕ → ℕ) → sum (q .count) (λ j. riderWeightOf q j * walking j) ≡ w * sum (q .count) walking
   same-weight walking =
       sum-same (q .count) _ _ (λ j h. ap (λ (x : ℕ). x * walking j) (weights .riders j h)) ∙ sum-times w (q .count) walking
 
-  price-worth : {route meetings : List ℕ} {price : ℕ} → Price network q route meetings price → (f : Fraction) × (x : PathCost (nodesOf network route) f) × (price ≡ worth x)
-  price-worth p = (
-    average (over (q .weight) (q .weight + w)) (p .driving) (sum (q .count) (p .walking)),
+  -- The price is (a+w) × f(P), where P is the path along the route ..
+  pub price-cost : {route meetings : List ℕ} {price : ℕ} → Price network q route meetings price → (f : Fraction) × PathCost (nodesOf network route) f × Is (times f (q .weight + w)) price
+  price-cost p = (
+    average (queryOf q w weights .alpha) (p .driving) (sum (q .count) (p .walking)),
     record { c = p .driving; d = p .walking; path = drive-path two (p .drives); near = λ j h. meeting-near two (p .meets j h); averages = refl },
-    p .adds ∙ ap (λ (x : ℕ). q .weight * p .driving + x) (same-weight (p .walking)),
+    rw (p .adds, same-weight (p .walking)) (average-is (q .weight) w (omega arith) (p .driving) (sum (q .count) (p .walking))),
   )
 
-  -- The price is (a+w) × f(P), where P is the path along the route.
-  pub price-cost : {route meetings : List ℕ} {price : ℕ} → Price network q route meetings price → (f : Fraction) × PathCost (nodesOf network route) f × Is (times f (q .weight + w)) price
-  price-cost p = let (f, x, same) = price-worth p in (f, x, worth-is x ∙ ap (λ (n : ℕ). n * f .bottom) (sym same))
+  -- .. and no other number is f(P), unless links between the same nodes differ in cost.
+  pub price-is : {route meetings : List ℕ} {price : ℕ} {f : Fraction} → OneWeight (graphOf network) → Price network q route meetings price → PathCost (nodesOf network route) f → Is (times f (q .weight + w)) price
+  price-is {price = price} one p x =
+      let (g, y, is) = price-cost p in
+      subst (λ (h : Fraction). Is (times h (q .weight + w)) price) (cost-unique one y x) is
 
   module _ (sound : SoundNetwork network) (value : SoundValue (nodeCount network) q) where
-    -- Every path of the graph with an f is a route with that price.
+    -- A legal route along a path has the price a × c + w × d.
+    pub route-worth : {route : List ℕ} {c : ℕ} (d : ℕ → ℕ) → Route network q route c → ((j : ℕ) → j < q .count → NodeRoute (graphOf network) (riderNodeOf q j) (q .source ∷ nodesOf network route) (d j)) → HasPrice network q route (q .weight * c + w * sum (q .count) d)
+    route-worth {route} d drives near =
+        rw (← same-weight d) (meet sound value route d drives (λ j h. near-meeting two sound value h (near j h)))
+
+    -- Every path with an f is that of a route whose price is (a+w) × f.
     pub cost-price : {P : List ℕ} {f : Fraction} → PathCost P f → PricedPath network q w P f
     cost-price x =
         let (route, drives, nodes) = path-drive two (x .path) in
         record {
           route = route;
           nodes = nodes;
-          price = worth x;
-          priced = rw (← same-weight (x .d)) (meet sound value route (x .d) drives (λ j h. near-meeting two sound value h (rw nodes (x .near j h))));
-          is = worth-is x;
+          price = q .weight * x .c + w * sum (q .count) (x .d);
+          priced = route-worth (x .d) drives (λ j h. rw nodes (x .near j h));
+          is = rw (x .averages) (average-is (q .weight) w (omega arith) (x .c) (sum (q .count) (x .d)));
         }
 
     -- A route of least price goes along a path that Definition 2.1 asks for ..
     pub lowest-optimal : {route meetings : List ℕ} {price : ℕ} → Price network q route meetings price → NoLower network q price → (f : Fraction) × Optimal (graphOf network) (queryOf q w weights) (nodesOf network route) f × Is (times f (q .weight + w)) price
-    unfolding cost-price price-cost
-    lowest-optimal p low =
-        let (f, x, same) = price-worth p in
+    lowest-optimal {price = price} p low =
+        let (f, x, is) = price-cost p in
         let least : (P : List ℕ) (g : Fraction) → PathCost P g → AtMost f g =
-        λ P g y. worth-le x y (omega (arith, low _ _ _ (cost-price y .priced .prices))) in
-        (f, record { costs = x; least = least }, price-cost p .2)
+        λ P g y. let r = cost-price y in le-at-most f g (q .weight + w) price (r .price) (omega arith) is (r .is) (low _ _ _ (r .priced .prices)) in
+        (f, record { costs = x; least = least }, is)
 
-    -- .. and each such path is a route of least price.
+    -- .. and each such path is that of a route of least price.
     pub optimal-lowest : {P : List ℕ} {f : Fraction} → Optimal (graphOf network) (queryOf q w weights) P f → (r : PricedPath network q w P f) × NoLower network q (r .price)
-    unfolding cost-price
-    optimal-lowest o = (
-      cost-price (o .costs),
-      λ route meetings other p.
-          let (g, y, same) = price-worth p in
-          omega (arith, le-worth (o .costs) y (o .least _ g y)),
-    )
+    optimal-lowest {f = f} o =
+        let r = cost-price (o .costs) in
+        (r, λ route meetings price p. let (g, y, is) = price-cost p in at-most-le f g (q .weight + w) (r .price) price (omega arith) (r .is) is (o .least _ g y))

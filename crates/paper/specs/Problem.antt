@@ -10,7 +10,11 @@ pub record Graph : Type 1 where
   pub Edge : ℕ → ℕ → ℕ → Type 0
   pub undirected : (u v w : ℕ) → Edge u v w → Edge v u w
 
--- A path from s to t, not necessarily a simple one: P lists its nodes behind s, and c(P) is c, the sum of the weights of its edges. (Between nodes that several edges join it takes one of them.)
+-- Edges that join the same nodes have the same weight, so that it is a function w(u, v).
+abbrev pub OneWeight : Graph → Type 0
+OneWeight G = (u v w x : ℕ) → G .Edge u v w → G .Edge u v x → w ≡ x
+
+-- A path from s to t, not necessarily a simple one: P lists its nodes behind s, and c(P) is c, the sum of the weights of its edges.
 pub data Path (G : Graph) (t : ℕ) : ℕ → List ℕ → ℕ → Type 0 where
   stays : {s c : ℕ} → s ≡ t → c ≡ 0 → Path G t s [] c
   goes : {s v c : ℕ} {P : List ℕ} (w rest : ℕ) → G .Edge s v w → Path G t v P rest → c ≡ w + rest → Path G t s (v ∷ P) c

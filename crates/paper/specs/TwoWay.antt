@@ -1,17 +1,16 @@
 -- Where document 01 and the paper meet: "If all links exist both ways, each way driven and walked at one and the same cost, and every rider weighs w, our price is (a+w) times the paper's f with alpha = a/(a+w), where a is the bus weight."
-use Prim.Native.Nat.{ℕ, _+_, _≤_, _<_}
+use Prim.Native.Nat.{ℕ, _+_, _<_}
 use mathlib.Core.Path.{_≡_}
 use mathlib.Core.Logic.{_⊎_, ⊎-swap}
 use mathlib.Core.List.{List, map}
 use native.Mathlib.Omega.{arith}
-use lib.ListN.{length}
 use Rattle.rules.specs.Network.{linkCount, from, to, drive, walk, closed}
 use Rattle.rules.specs.Request.{riderNodeOf, riderWeightOf}
 use Rattle.rules.specs.Walks.{Walkable}
-use Rattle.rules.specs.Routes.{RiderWalks, nodeAt, Price}
 use Rattle.rules.specs.declared.Request.{Request}
-use Rattle.paper.specs.Fraction.{Fraction, over, times, Is}
+use Rattle.paper.specs.Fraction.{Fraction, times, Is}
 use Rattle.paper.specs.Problem.{Graph, Query}
+use Rattle.paper.specs.Prices.{HasPrice}
 
 -- a link back, at the same cost
 pub record Back (network : List ℕ) (k : ℕ) : Type 0 where
@@ -49,7 +48,7 @@ queryOf q w weights =
       t = q .target;
       l = q .count;
       U = riderNodeOf q;
-      alpha = over (q .weight) (q .weight + w);
+      alpha = record { top = q .weight; bottom = q .weight + w; positive = omega arith };
       above = weights .bus;
       below = omega arith;
     }
@@ -58,19 +57,6 @@ queryOf q w weights =
 abbrev pub nodesOf : List ℕ → List ℕ → List ℕ
 nodesOf network route = map (to network) route
 
--- Rider j can walk to a position of the route.
-pub record Reaches (network : List ℕ) (q : Request) (route : List ℕ) (j : ℕ) : Type 0 where
-  pub position : ℕ
-  pub within : position ≤ length route
-  pub distance : ℕ
-  pub walks : RiderWalks network q j (nodeAt network (q .source) route position) distance
-
--- The route has this price, with one meeting position for each rider.
-pub record HasPrice (network : List ℕ) (q : Request) (route : List ℕ) (price : ℕ) : Type 0 where
-  pub meetings : List ℕ
-  pub size : length meetings ≡ q .count
-  pub prices : Price network q route meetings price
-
 -- A path P with f(P) = f, as a route through the same nodes whose price is (a+w) × f.
 pub record PricedPath (network : List ℕ) (q : Request) (w : ℕ) (P : List ℕ) (f : Fraction) : Type 0 where
   pub route : List ℕ
@@ -78,7 +64,3 @@ pub record PricedPath (network : List ℕ) (q : Request) (w : ℕ) (P : List ℕ
   pub price : ℕ
   pub priced : HasPrice network q route price
   pub is : Is (times f (q .weight + w)) price
-
--- No route has a lower price.
-abbrev pub NoLower : List ℕ → Request → ℕ → Type 0
-NoLower network q price = (route meetings : List ℕ) (other : ℕ) → Price network q route meetings other → price ≤ other

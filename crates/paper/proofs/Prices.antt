@@ -9,7 +9,7 @@ use Rattle.rules.specs.Network.{SoundNetwork, nodeCount}
 use Rattle.rules.specs.Request.{SoundValue, riderNodeOf, riderWeightOf}
 use Rattle.rules.specs.Routes.{Route, nodeAt, RiderWalks, Meeting, sum}
 use Rattle.rules.specs.declared.Request.{Request}
-use Rattle.paper.specs.TwoWay.{Reaches, HasPrice}
+use Rattle.paper.specs.Prices.{Reaches, HasPrice}
 use Rattle.paper.proofs.Decide.{Lowest, dec-lowest, lowest-of, dec-distance}
 
 -- What holds of some number for each j below the count holds of the numbers of a list.
@@ -18,7 +18,7 @@ module _ (M : ℕ → ℕ → Type 0) where
   one-more xs here later zero h = here
   one-more xs here later (suc j) h = later j (omega arith)
 
-pub collect : (count : ℕ) (M : ℕ → ℕ → Type 0) → ((j : ℕ) → j < count → (x : ℕ) × M j x) → (xs : List ℕ) × (length xs ≡ count) × ((j : ℕ) → j < count → M j (getD xs j 0))
+collect : (count : ℕ) (M : ℕ → ℕ → Type 0) → ((j : ℕ) → j < count → (x : ℕ) × M j x) → (xs : List ℕ) × (length xs ≡ count) × ((j : ℕ) → j < count → M j (getD xs j 0))
 collect zero M each = ([], refl, λ j h. absurd (omega arith))
 collect (suc count) M each =
     let (xs, size, hold) = collect count (λ j. M (suc j)) (λ j h. each (suc j) (omega arith)) in
