@@ -87,8 +87,8 @@ module _ {network : List ℕ} (two : TwoWay network) {q : Request} {w : ℕ} (we
   module _ (sound : SoundNetwork network) (value : SoundValue (nodeCount network) q) where
     -- A legal route along a path has the price a × c + w × d.
     pub route-worth : {route : List ℕ} {c : ℕ} (d : ℕ → ℕ) → Route network q route c → ((j : ℕ) → j < q .count → NodeRoute (graphOf network) (riderNodeOf q j) (q .source ∷ nodesOf network route) (d j)) → HasPrice network q route (q .weight * c + w * sum (q .count) d)
-    route-worth {route} d drives near =
-        rw (← same-weight d) (meet sound value route d drives (λ j h. near-meeting two sound value h (near j h)))
+    route-worth d drives near =
+        rw (← same-weight d) (meet q d drives (λ j h. near-meeting two sound value h (near j h)))
 
     -- Every path with an f is that of a route whose price is (a+w) × f.
     pub cost-price : {P : List ℕ} {f : Fraction} → PathCost P f → PricedPath network q w P f

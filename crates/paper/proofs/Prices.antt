@@ -25,6 +25,12 @@ collect (suc count) M each =
     let (x, here) = each 0 (omega arith) in
     (x ∷ xs, ap suc size, one-more M xs here hold)
 
+-- Riders who have each a meeting position make a list of them, and a price.
+pub meet : {network : List ℕ} (q : Request) {route : List ℕ} {driving : ℕ} (walking : ℕ → ℕ) → Route network q route driving → ((j : ℕ) → j < q .count → (p : ℕ) × Meeting network q route j p (walking j)) → HasPrice network q route (q .weight * driving + sum (q .count) (λ j. riderWeightOf q j * walking j))
+meet {network} q {route} {driving} walking drives meets =
+    let (meetings, size, met) = collect (q .count) (λ j p. Meeting network q route j p (walking j)) meets in
+    record { meetings = meetings; size = size; prices = record { driving = driving; walking = walking; drives = drives; meets = met; adds = refl } }
+
 module _ {network : List ℕ} (sound : SoundNetwork network) {q : Request} (value : SoundValue (nodeCount network) q) (route : List ℕ) where
   -- Of the distances to the positions that a rider reaches one is the least, and of the positions with that distance one is the earliest.
   pub nearest : {j : ℕ} → j < q .count → Reaches network q route j → (d : ℕ) × ((p : ℕ) × Meeting network q route j p d)
@@ -56,14 +62,8 @@ module _ {network : List ℕ} (sound : SoundNetwork network) {q : Request} (valu
       first : Lowest (At (least .number)) (suc (length route))
       first = least .holds
 
-  -- Riders who have each a meeting position make a list of them, and a price.
-  pub meet : {driving : ℕ} (walking : ℕ → ℕ) → Route network q route driving → ((j : ℕ) → j < q .count → (p : ℕ) × Meeting network q route j p (walking j)) → HasPrice network q route (q .weight * driving + sum (q .count) (λ j. riderWeightOf q j * walking j))
-  meet {driving} walking drives meets =
-      let (meetings, size, met) = collect (q .count) (λ j p. Meeting network q route j p (walking j)) meets in
-      record { meetings = meetings; size = size; prices = record { driving = driving; walking = walking; drives = drives; meets = met; adds = refl } }
-
   -- A legal route whose riders all reach it has a price.
   pub route-price : {driving : ℕ} → Route network q route driving → ((j : ℕ) → j < q .count → Reaches network q route j) → (price : ℕ) × HasPrice network q route price
   route-price drives reaches =
       let (distances, size, near) = collect (q .count) (λ j d. (p : ℕ) × Meeting network q route j p d) (λ j h. nearest h (reaches j h)) in
-      (_, meet (λ j. getD distances j 0) drives near)
+      (_, meet q (λ j. getD distances j 0) drives near)
