@@ -98,11 +98,11 @@ module _ (network : List ℕ) (v : ℕ) where
     ]
   ]
 
-  dec-reaches : (most u b : ℕ) → Dec (Short most u b)
-  dec-reaches zero u b = no (λ r. omega (arith, r .few))
-  dec-reaches (suc most) u b = elim (dec-here u b) [
+  dec-short : (most u b : ℕ) → Dec (Short most u b)
+  dec-short zero u b = no (λ r. omega (arith, r .few))
+  dec-short (suc most) u b = elim (dec-here u b) [
     | yes h ↦ yes (here (h .0) (h .1))
-    | no h ↦ elim (lowest (λ k. dec-by u k (dec-reaches most (to network k) (b - walk network k))) (linkCount network)) [
+    | no h ↦ elim (lowest (λ k. dec-by u k (dec-short most (to network k) (b - walk network k))) (linkCount network)) [
       | inl low ↦ yes (onward (low .within) (low .holds))
       | inr none ↦ no (λ r. ⊎-elim h (λ s. none (s .0) (s .1) (s .2)) (split (r .trip) (r .few) (r .below)))
     ]
@@ -110,9 +110,9 @@ module _ (network : List ℕ) (v : ℕ) where
 
   -- d is the walking distance where a walk has a sum below d + 1 and none has one below d.
   pub dec-distance : SoundNetwork network → (u d : ℕ) → u < nodeCount network → Dec (WalkingDistance network u v d)
-  dec-distance sound u d h = elim (dec-reaches (nodeCount network) u d) [
+  dec-distance sound u d h = elim (dec-short (nodeCount network) u d) [
     | yes r ↦ no (λ far. omega (arith, far .least _ _ (trip-way (r .trip) .1), r .below))
-    | no less ↦ elim (dec-reaches (nodeCount network) u (suc d)) [
+    | no less ↦ elim (dec-short (nodeCount network) u (suc d)) [
       | no none ↦ no (λ far. none (short (way-trip (far .walked)) (omega arith)))
       | yes r ↦ (
           let above : ¬ (r .sum < d) = λ below. less (record { sum = r .sum; trip = r .trip; few = r .few; below = below }) in

@@ -11,11 +11,11 @@ use Rattle.rules.specs.declared.Request.{Request}
 use Rattle.rules.proofs.PriceLaws.{sum-same}
 use Rattle.paper.specs.Fraction.{Fraction, times, Is, AtMost}
 use Rattle.paper.specs.Problem.{Graph, OneWeight, Path, stays, goes, NodeRoute, Query, average, Cost, Optimal}
-use Rattle.paper.specs.Prices.{HasPrice, NoLower}
+use Rattle.paper.specs.Prices.{Reaches, HasPrice, NoLower}
 use Rattle.paper.specs.TwoWay.{TwoWay, graphOf, EqualWeights, queryOf, nodesOf, PricedPath}
 use Rattle.paper.proofs.Fraction.{average-is, le-at-most, at-most-le}
 use Rattle.paper.proofs.TwoWay.{passes, passed, drive-path, path-drive, distance-dist, dist-distance}
-use Rattle.paper.proofs.Prices.{nearest, meet}
+use Rattle.paper.proofs.Prices.{nearest, meet, route-price}
 
 -- Where edges that join the same nodes have the same weight, a path has one f.
 path-unique : {G : Graph} {s t c e : ℕ} {P : List ℕ} → OneWeight G → Path G t s P c → Path G t s P e → c ≡ e
@@ -85,7 +85,14 @@ module _ {network : List ℕ} (two : TwoWay network) {q : Request} {w : ℕ} (we
       subst (λ (h : Fraction). Is (times h (q .weight + w)) price) (cost-unique one y x) is
 
   module _ (sound : SoundNetwork network) (value : SoundValue (nodeCount network) q) where
-    -- A legal route along a path has the price a × c + w × d.
+    -- A legal route whose riders all reach it has a price, and it is (a+w) × f(P).
+    pub route-cost : {route : List ℕ} {driving : ℕ} → Route network q route driving → ((j : ℕ) → j < q .count → Reaches network q route j) → (price : ℕ) × (f : Fraction) × HasPrice network q route price × PathCost (nodesOf network route) f × Is (times f (q .weight + w)) price
+    route-cost drives reaches =
+        let (price, has) = route-price sound value _ drives reaches in
+        let (f, x, is) = price-cost (has .prices) in
+        (price, f, has, x, is)
+
+    -- Where c is what driving it costs and d what equation (1) says, that price is a × c + w × sum of d.
     pub route-worth : {route : List ℕ} {c : ℕ} (d : ℕ → ℕ) → Route network q route c → ((j : ℕ) → j < q .count → NodeRoute (graphOf network) (riderNodeOf q j) (q .source ∷ nodesOf network route) (d j)) → HasPrice network q route (q .weight * c + w * sum (q .count) d)
     route-worth d drives near =
         rw (← same-weight d) (meet q d drives (λ j h. near-meeting two sound value h (near j h)))

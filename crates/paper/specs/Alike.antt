@@ -8,7 +8,7 @@ use Rattle.rules.specs.Walks.{Way, Walkable}
 use Rattle.rules.specs.Routes.{RiderWalks}
 use Rattle.rules.specs.declared.Request.{Request}
 
--- The same links between the same nodes, at whatever costs.
+-- The same links between the same nodes, at whatever costs. (The number of nodes plays no part in a price.)
 pub record SameLinks (a b : List ℕ) : Type 0 where
   pub count : linkCount a ≡ linkCount b
   pub starts : (k : ℕ) → k < linkCount a → from a k ≡ from b k
