@@ -1,0 +1,124 @@
+-- The price of a route is (a+w) times the paper's f, and a route of least price is one that Definition 2.1 asks for.
+use Prim.Native.Nat.{ℕ, zero, suc, _+_, _*_, _<_}
+use mathlib.Core.Path.{_≡_, refl, sym, _∙_, ap, ap₂, subst}
+use mathlib.Core.List.{List, _∷_}
+use native.Mathlib.Nat.{mul-add, mul-zero}
+use native.Mathlib.Omega.{arith}
+use Rattle.rules.specs.Network.{SoundNetwork, nodeCount}
+use Rattle.rules.specs.Request.{SoundValue, riderNodeOf, riderWeightOf}
+use Rattle.rules.specs.Routes.{Route, nodeAt, RiderWalks, Meeting, sum, Price}
+use Rattle.rules.specs.declared.Request.{Request}
+use Rattle.rules.proofs.PriceLaws.{sum-same}
+use Rattle.paper.specs.Fraction.{Fraction, times, Is, AtMost}
+use Rattle.paper.specs.Problem.{Graph, OneWeight, Path, stays, goes, NodeRoute, Query, average, Cost, Optimal}
+use Rattle.paper.specs.Prices.{Reaches, HasPrice, NoLower}
+use Rattle.paper.specs.TwoWay.{TwoWay, graphOf, EqualWeights, queryOf, nodesOf, PricedPath}
+use Rattle.paper.proofs.Fraction.{average-is, le-at-most, at-most-le}
+use Rattle.paper.proofs.TwoWay.{passes, passed, drive-path, path-drive, distance-dist, dist-distance}
+use Rattle.paper.proofs.Prices.{nearest, meet, route-price}
+
+-- Where edges that join the same nodes have the same weight, a path has one f.
+path-unique : {G : Graph} {s t c e : ℕ} {P : List ℕ} → OneWeight G → Path G t s P c → Path G t s P e → c ≡ e
+path-unique one (stays _ c) (stays _ e) = cc
+path-unique one (goes w rest edge path c) (goes x other also way e) = cc (one _ _ w x edge also, path-unique one path way)
+
+near-unique : {G : Graph} {u d e : ℕ} {nodes : List ℕ} → NodeRoute G u nodes d → NodeRoute G u nodes e → d ≡ e
+near-unique a b = omega (arith, a .least _ _ (b .passed) (b .reached), b .least _ _ (a .passed) (a .reached))
+
+pub cost-unique : {G : Graph} {query : Query} {P : List ℕ} {f g : Fraction} → OneWeight G → Cost G query P f → Cost G query P g → f ≡ g
+cost-unique {query = query} one x y =
+    x .averages
+    ∙ ap₂ (average (query .alpha)) (path-unique one (x .path) (y .path)) (sum-same (query .l) (x .d) (y .d) (λ j h. near-unique (x .near j h) (y .near j h)))
+    ∙ sym (y .averages)
+
+module _ {network : List ℕ} (two : TwoWay network) {q : Request} {route : List ℕ} where
+  -- A rider's meeting position is at the distance of equation (1) ..
+  meeting-near : {j position d : ℕ} → Meeting network q route j position d → NodeRoute (graphOf network) (riderNodeOf q j) (q .source ∷ nodesOf network route) d
+  meeting-near {position = position} m =
+      record {
+        meeting = nodeAt network (q .source) route position;
+        passed = passes network (q .source) route position (m .within);
+        reached = distance-dist two (m .walks);
+        least = λ v e on far.
+            let (other, within, is) = passed network (q .source) route on in
+            m .least other e within (rw is at (dist-distance two far));
+      }
+
+  -- .. and a rider at such a distance has a meeting position.
+  near-meeting : {j d : ℕ} → SoundNetwork network → SoundValue (nodeCount network) q → j < q .count → NodeRoute (graphOf network) (riderNodeOf q j) (q .source ∷ nodesOf network route) d → (p : ℕ) × Meeting network q route j p d
+  near-meeting {j} {d} sound value h near =
+      let (position, within, is) = passed network (q .source) route (near .passed) in
+      let walks : RiderWalks network q j (nodeAt network (q .source) route position) d = rw is at (dist-distance two (near .reached)) in
+      let (e, found) = nearest sound value route h (record { position = position; within = within; distance = d; walks = walks }) in
+      let (p, m) = found in
+      let same : e ≡ d = near-unique (meeting-near m) near in
+      (p, rw same at m)
+
+-- a factor that all summands share
+sum-times : (w count : ℕ) (f : ℕ → ℕ) → sum count (λ j. w * f j) ≡ w * sum count f
+unfolding sum
+sum-times w zero f = rw mul-zero
+sum-times w (suc count) f = rw (mul-add, sum-times w count f)
+
+module _ {network : List ℕ} (two : TwoWay network) {q : Request} {w : ℕ} (weights : EqualWeights q w) where
+  -- P is a path for the query, and f(P) is f.
+  abbrev PathCost : List ℕ → Fraction → Type 0
+  PathCost = Cost (graphOf network) (queryOf q w weights)
+
+  -- The riders' part of the price, with the one weight taken out.
+  same-weight : (walking : ℕ → ℕ) → sum (q .count) (λ j. riderWeightOf q j * walking j) ≡ w * sum (q .count) walking
+  same-weight walking =
+      sum-same (q .count) _ _ (λ j h. ap (λ (x : ℕ). x * walking j) (weights .riders j h)) ∙ sum-times w (q .count) walking
+
+  -- The price is (a+w) × f(P), where P is the path along the route ..
+  pub price-cost : {route meetings : List ℕ} {price : ℕ} → Price network q route meetings price → (f : Fraction) × PathCost (nodesOf network route) f × Is (times f (q .weight + w)) price
+  price-cost p = (
+    average (queryOf q w weights .alpha) (p .driving) (sum (q .count) (p .walking)),
+    record { c = p .driving; d = p .walking; path = drive-path two (p .drives); near = λ j h. meeting-near two (p .meets j h); averages = refl },
+    rw (p .adds, same-weight (p .walking)) (average-is (q .weight) w (omega arith) (p .driving) (sum (q .count) (p .walking))),
+  )
+
+  -- .. and no other number is f(P), unless links between the same nodes differ in cost.
+  pub price-is : {route meetings : List ℕ} {price : ℕ} {f : Fraction} → OneWeight (graphOf network) → Price network q route meetings price → PathCost (nodesOf network route) f → Is (times f (q .weight + w)) price
+  price-is {price = price} one p x =
+      let (g, y, is) = price-cost p in
+      subst (λ (h : Fraction). Is (times h (q .weight + w)) price) (cost-unique one y x) is
+
+  module _ (sound : SoundNetwork network) (value : SoundValue (nodeCount network) q) where
+    -- A legal route whose riders all reach it has a price, and it is (a+w) × f(P).
+    pub route-cost : {route : List ℕ} {driving : ℕ} → Route network q route driving → ((j : ℕ) → j < q .count → Reaches network q route j) → (price : ℕ) × (f : Fraction) × HasPrice network q route price × PathCost (nodesOf network route) f × Is (times f (q .weight + w)) price
+    route-cost drives reaches =
+        let (price, has) = route-price sound value _ drives reaches in
+        let (f, x, is) = price-cost (has .prices) in
+        (price, f, has, x, is)
+
+    -- Where c is what driving it costs and d what equation (1) says, that price is a × c + w × sum of d.
+    pub route-worth : {route : List ℕ} {c : ℕ} (d : ℕ → ℕ) → Route network q route c → ((j : ℕ) → j < q .count → NodeRoute (graphOf network) (riderNodeOf q j) (q .source ∷ nodesOf network route) (d j)) → HasPrice network q route (q .weight * c + w * sum (q .count) d)
+    route-worth d drives near =
+        rw (← same-weight d) (meet q d drives (λ j h. near-meeting two sound value h (near j h)))
+
+    -- Every path with an f is that of a route whose price is (a+w) × f.
+    pub cost-price : {P : List ℕ} {f : Fraction} → PathCost P f → PricedPath network q w P f
+    cost-price x =
+        let (route, drives, nodes) = path-drive two (x .path) in
+        record {
+          route = route;
+          nodes = nodes;
+          price = q .weight * x .c + w * sum (q .count) (x .d);
+          priced = route-worth (x .d) drives (λ j h. rw nodes (x .near j h));
+          is = rw (x .averages) (average-is (q .weight) w (omega arith) (x .c) (sum (q .count) (x .d)));
+        }
+
+    -- A route of least price goes along a path that Definition 2.1 asks for ..
+    pub lowest-optimal : {route meetings : List ℕ} {price : ℕ} → Price network q route meetings price → NoLower network q price → (f : Fraction) × Optimal (graphOf network) (queryOf q w weights) (nodesOf network route) f × Is (times f (q .weight + w)) price
+    lowest-optimal {price = price} p low =
+        let (f, x, is) = price-cost p in
+        let least : (P : List ℕ) (g : Fraction) → PathCost P g → AtMost f g =
+        λ P g y. let r = cost-price y in le-at-most f g (q .weight + w) price (r .price) (omega arith) is (r .is) (low _ _ _ (r .priced .prices)) in
+        (f, record { costs = x; least = least }, is)
+
+    -- .. and each such path is that of a route of least price.
+    pub optimal-lowest : {P : List ℕ} {f : Fraction} → Optimal (graphOf network) (queryOf q w weights) P f → (r : PricedPath network q w P f) × NoLower network q (r .price)
+    optimal-lowest {f = f} o =
+        let r = cost-price (o .costs) in
+        (r, λ route meetings price p. let (g, y, is) = price-cost p in at-most-le f g (q .weight + w) (r .price) price (omega arith) (r .is) is (o .least _ g y))

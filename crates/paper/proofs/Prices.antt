@@ -1,0 +1,69 @@
+-- A legal route whose riders all reach it has a price.
+use Prim.Native.Nat.{ℕ, zero, suc, _+_, _*_, _≤_, _<_}
+use mathlib.Core.Path.{_≡_, refl, ap}
+use mathlib.Core.List.{List, [], _∷_}
+use native.Mathlib.Decide.{decLt}
+use native.Mathlib.Omega.{arith}
+use lib.ListN.{length, getD}
+use Rattle.rules.specs.Network.{SoundNetwork, nodeCount}
+use Rattle.rules.specs.Request.{SoundValue, riderNodeOf, riderWeightOf}
+use Rattle.rules.specs.Routes.{Route, nodeAt, RiderWalks, Meeting, sum}
+use Rattle.rules.specs.declared.Request.{Request}
+use Rattle.paper.specs.Prices.{Reaches, HasPrice}
+use Rattle.paper.proofs.Decide.{Lowest, dec-lowest, lowest-of, dec-distance}
+
+-- What holds of some number for each j below the count holds of the numbers of a list.
+module _ (M : ℕ → ℕ → Type 0) where
+  one-more : {count x : ℕ} (xs : List ℕ) → M 0 x → ((j : ℕ) → j < count → M (suc j) (getD xs j 0)) → (j : ℕ) → j < suc count → M j (getD (x ∷ xs) j 0)
+  one-more xs here later zero h = here
+  one-more xs here later (suc j) h = later j (omega arith)
+
+collect : (count : ℕ) (M : ℕ → ℕ → Type 0) → ((j : ℕ) → j < count → (x : ℕ) × M j x) → (xs : List ℕ) × (length xs ≡ count) × ((j : ℕ) → j < count → M j (getD xs j 0))
+collect zero M each = ([], refl, λ j h. absurd (omega arith))
+collect (suc count) M each =
+    let (xs, size, hold) = collect count (λ j. M (suc j)) (λ j h. each (suc j) (omega arith)) in
+    let (x, here) = each 0 (omega arith) in
+    (x ∷ xs, ap suc size, one-more M xs here hold)
+
+-- Riders who have each a meeting position make a list of them, and a price.
+pub meet : {network : List ℕ} (q : Request) {route : List ℕ} {driving : ℕ} (walking : ℕ → ℕ) → Route network q route driving → ((j : ℕ) → j < q .count → (p : ℕ) × Meeting network q route j p (walking j)) → HasPrice network q route (q .weight * driving + sum (q .count) (λ j. riderWeightOf q j * walking j))
+meet {network} q {route} {driving} walking drives meets =
+    let (meetings, size, met) = collect (q .count) (λ j p. Meeting network q route j p (walking j)) meets in
+    record { meetings = meetings; size = size; prices = record { driving = driving; walking = walking; drives = drives; meets = met; adds = refl } }
+
+module _ {network : List ℕ} (sound : SoundNetwork network) {q : Request} (value : SoundValue (nodeCount network) q) (route : List ℕ) where
+  -- Of the distances to the positions that a rider reaches one is the least, and of the positions with that distance one is the earliest.
+  pub nearest : {j : ℕ} → j < q .count → Reaches network q route j → (d : ℕ) × ((p : ℕ) × Meeting network q route j p d)
+  nearest {j} h r = (
+    least .number,
+    (
+      first .number,
+      record {
+        within = omega (arith, first .within);
+        walks = first .holds;
+        least = λ other c g far. elim (decLt c (least .number)) [ yes l ↦ absurd (least .first c l (earliest c g far)) | no l ↦ omega arith ];
+        earliest = first .first;
+      },
+    ),
+  )
+    where
+      At : ℕ → ℕ → Type 0
+      At d i = RiderWalks network q j (nodeAt network (q .source) route i) d
+
+      dec : (d i : ℕ) → Dec (At d i)
+      dec d i = dec-distance network (nodeAt network (q .source) route i) sound (riderNodeOf q j) d (value .nodes j h)
+
+      earliest : {i : ℕ} (d : ℕ) → i ≤ length route → At d i → Lowest (At d) (suc (length route))
+      earliest d g far = lowest-of (dec d) (omega arith) far
+
+      least : Lowest (λ d. Lowest (At d) (suc (length route))) (suc (r .distance))
+      least = lowest-of (λ d. dec-lowest (dec d) (suc (length route))) {i = r .distance} (omega arith) (earliest (r .distance) (r .within) (r .walks))
+
+      first : Lowest (At (least .number)) (suc (length route))
+      first = least .holds
+
+  -- A legal route whose riders all reach it has a price.
+  pub route-price : {driving : ℕ} → Route network q route driving → ((j : ℕ) → j < q .count → Reaches network q route j) → (price : ℕ) × HasPrice network q route price
+  route-price drives reaches =
+      let (distances, size, near) = collect (q .count) (λ j d. (p : ℕ) × Meeting network q route j p d) (λ j h. nearest h (reaches j h)) in
+      (_, meet q (λ j. getD distances j 0) drives near)

@@ -1,0 +1,58 @@
+-- Two networks that agree in part.
+use Prim.Native.Nat.{ℕ, _≤_, _<_}
+use mathlib.Core.Path.{_≡_}
+use mathlib.Core.Logic.{_⊎_, _≢_, _↔_}
+use mathlib.Core.List.{List, List·Memᴰ}
+use Rattle.rules.specs.Network.{linkCount, from, to, drive, walk, closed}
+use Rattle.rules.specs.Walks.{Way, Walkable}
+use Rattle.rules.specs.Routes.{RiderWalks}
+use Rattle.rules.specs.declared.Request.{Request}
+
+-- The same links between the same nodes, at whatever costs. (The number of nodes plays no part in a price.)
+pub record SameLinks (a b : List ℕ) : Type 0 where
+  pub count : linkCount a ≡ linkCount b
+  pub starts : (k : ℕ) → k < linkCount a → from a k ≡ from b k
+  pub ends : (k : ℕ) → k < linkCount a → to a k ≡ to b k
+
+-- The walk costs may differ anywhere, and a link may be open to walkers in one and closed in the other.
+pub record SameDriving (a b : List ℕ) : Type 0 where
+  pub links : SameLinks a b
+  pub drives : (k : ℕ) → k < linkCount a → drive a k ≡ drive b k
+
+-- The drive costs may differ anywhere.
+pub record SameWalking (a b : List ℕ) : Type 0 where
+  pub links : SameLinks a b
+  pub walks : (k : ℕ) → k < linkCount a → walk a k ≡ walk b k
+
+-- The links exist.
+abbrev pub Known : List ℕ → List ℕ → Type 0
+Known network links = (k : ℕ) → List·Memᴰ k links → k < linkCount network
+
+-- The links of the route cost the bus the same.
+abbrev pub SameOnRoute : List ℕ → List ℕ → List ℕ → Type 0
+SameOnRoute a b route = (k : ℕ) → List·Memᴰ k route → k < linkCount a → drive a k ≡ drive b k
+
+-- Every rider has the same walking distances.
+abbrev pub SameDistances : List ℕ → List ℕ → Request → Type 0
+SameDistances a b q = (j v d : ℕ) → j < q .count → RiderWalks a q j v d ↔ RiderWalks b q j v d
+
+-- All is the same but the walk cost of link k.
+pub record SameButWalk (k : ℕ) (a b : List ℕ) : Type 0 where
+  pub exists : k < linkCount a
+  pub driving : SameDriving a b
+  pub others : (other : ℕ) → other < linkCount a → other ≢ k → walk a other ≡ walk b other
+
+-- Some way along such links leads from u to v and costs at most c.
+pub record Within (Link : ℕ → ℕ → ℕ → ℕ → Type 0) (u v c : ℕ) : Type 0 where
+  pub links : List ℕ
+  pub sum : ℕ
+  pub way : Way Link v u links sum
+  pub cheap : sum ≤ c
+
+-- the links open to walkers other than k
+abbrev pub Besides : List ℕ → ℕ → ℕ → ℕ → ℕ → ℕ → Type 0
+Besides network k other u v w = (other ≢ k) × Walkable network other u v w
+
+-- No one can walk better by link k: it is closed to walkers, or a walk along other links leads from its start to its end and costs no more.
+abbrev pub Needless : List ℕ → ℕ → Type 0
+Needless network k = (closed ≤ walk network k) ⊎ Within (Besides network k) (from network k) (to network k) (walk network k)

@@ -1,0 +1,66 @@
+-- Where document 01 and the paper meet: "If all links exist both ways, each way driven and walked at one and the same cost, and every rider weighs w, our price is (a+w) times the paper's f with alpha = a/(a+w), where a is the bus weight."
+use Prim.Native.Nat.{ℕ, _+_, _<_}
+use mathlib.Core.Path.{_≡_}
+use mathlib.Core.Logic.{_⊎_, ⊎-swap}
+use mathlib.Core.List.{List, map}
+use native.Mathlib.Omega.{arith}
+use Rattle.rules.specs.Network.{linkCount, from, to, drive, walk, closed}
+use Rattle.rules.specs.Request.{riderNodeOf, riderWeightOf}
+use Rattle.rules.specs.Walks.{Walkable}
+use Rattle.rules.specs.declared.Request.{Request}
+use Rattle.paper.specs.Fraction.{Fraction, times, Is}
+use Rattle.paper.specs.Problem.{Graph, Query}
+use Rattle.paper.specs.Prices.{HasPrice}
+
+-- a link back, at the same cost
+pub record Back (network : List ℕ) (k : ℕ) : Type 0 where
+  pub link : ℕ
+  pub exists : link < linkCount network
+  pub starts : from network link ≡ to network k
+  pub ends : to network link ≡ from network k
+  pub costs : walk network link ≡ walk network k
+
+-- A link that is open to the bus or to walkers costs both the same, and there is a link back.
+pub record TwoWay (network : List ℕ) : Type 0 where
+  pub alike : (k : ℕ) → k < linkCount network → (drive network k < closed) ⊎ (walk network k < closed) → drive network k ≡ walk network k
+  pub back : (k : ℕ) → k < linkCount network → walk network k < closed → Back network k
+
+-- The graph of such a network: each open link is an edge, which may be taken either way.
+unfoldable pub graphOf : List ℕ → Graph
+unfolding ⊎-swap
+graphOf network =
+    record {
+      Edge = λ u v w. (k : ℕ) × (Walkable network k u v w ⊎ Walkable network k v u w);
+      undirected = λ u v w edge. (edge .0, ⊎-swap (edge .1));
+    }
+
+-- The bus weighs a, every rider w.
+pub record EqualWeights (q : Request) (w : ℕ) : Type 0 where
+  pub bus : 0 < q .weight
+  pub positive : 0 < w
+  pub riders : (j : ℕ) → j < q .count → riderWeightOf q j ≡ w
+
+-- The paper weighs the driver's cost α and the riders' 1 - α. With α = a/(a+w) that is a : w, in whole numbers (a+w) × α = a and (a+w) × (1 - α) = w.
+abbrev pub queryOf : (q : Request) (w : ℕ) → EqualWeights q w → Query
+queryOf q w weights =
+    record {
+      s = q .source;
+      t = q .target;
+      l = q .count;
+      U = riderNodeOf q;
+      alpha = record { top = q .weight; bottom = q .weight + w; positive = omega arith };
+      above = weights .bus;
+      below = omega arith;
+    }
+
+-- the nodes of a route behind the source
+abbrev pub nodesOf : List ℕ → List ℕ → List ℕ
+nodesOf network route = map (to network) route
+
+-- A path P with f(P) = f, as a route through the same nodes whose price is (a+w) × f.
+pub record PricedPath (network : List ℕ) (q : Request) (w : ℕ) (P : List ℕ) (f : Fraction) : Type 0 where
+  pub route : List ℕ
+  pub nodes : nodesOf network route ≡ P
+  pub price : ℕ
+  pub priced : HasPrice network q route price
+  pub is : Is (times f (q .weight + w)) price
