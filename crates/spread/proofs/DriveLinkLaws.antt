@@ -1,7 +1,6 @@
 -- One link, as the code reads it: closed to the bus, no help, or a step.
 use Prim.Native.Nat.{ℕ, _+_, _*_, _<_, _≤_}
 use native.Mathlib.Omega.{arith}
-use native.Mathlib.Nat.{mul-le-mul}
 use mathlib.Core.Path.{_≡_, refl, sym, _∙_, ap}
 use mathlib.Core.List.{List}
 use lib.ListN.{getD, set}
@@ -9,10 +8,6 @@ use Rattle.rules.specs.Network.{linkCount, from, to, drive, closed}
 use Rattle.finish.specs.Packed.{packedStep, DriveLink, DriveArc}
 use Rattle.spread.specs.Relaxing.{Relaxed, Progress}
 use Rattle.spread.proofs.RelaxingLaws.{progress-none, progress-one, only-arc}
-
--- what driving a link costs is small
-pub light-step : {weight cost : ℕ} → weight ≤ 100 → cost < closed → weight * cost ≤ 6553400
-light-step {cost = cost} light h = let small : cost ≤ 65534 = omega arith in omega (arith, mul-le-mul light small)
 
 module _ {network t : List ℕ} {weight k n cost : ℕ} (reads-cost : cost ≡ drive network k) where
   pub closed-link : closed ≤ cost → Progress n (DriveArc network weight) (Relaxed (DriveLink network weight) k) t t 0

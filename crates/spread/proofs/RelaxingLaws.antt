@@ -3,12 +3,12 @@ use Prim.Native.Nat.{ℕ, zero, suc, _+_, _<_, _≤_}
 use native.Mathlib.Omega.{arith}
 use native.Mathlib.Decide.{ℕ-discrete}
 use borrow.Author.Count.{below-more}
-use mathlib.Core.Path.{_≡_, refl, sym, _∙_, ap}
+use mathlib.Core.Path.{_≡_, refl, _∙_, ap}
 use mathlib.Core.List.{List, [], _∷_}
 use lib.ListN.{length, getD, set, drop, length-set}
 use lib.Seq.{getD-set-same, getD-set-other, drop-set-lt}
 use Rattle.rules.specs.Rooms.{Kept}
-use Rattle.least.specs.Trips.{Arcs, Inits, Inside, Starts}
+use Rattle.least.specs.Trips.{Arcs, Inits, Inside}
 use Rattle.least.specs.Least.{Tentative}
 use Rattle.least.specs.Spread.{Spread}
 use Rattle.least.specs.Walking.{Linked}

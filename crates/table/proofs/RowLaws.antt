@@ -1,6 +1,6 @@
 -- Rows of a room: where they lie, and what the room holds once a row that was lent is back.
 use Prim.Native.Nat.{ℕ, _+_, _-_, _*_, _^_, _≤_, _<_}
-use mathlib.Core.Path.{_≡_, refl, _∙_, ap}
+use mathlib.Core.Path.{_≡_, _∙_, ap}
 use mathlib.Core.List.{List, _++_}
 use native.Mathlib.Nat.{mul-le-mul, mul-le-mul-right, suc-mul}
 use native.Mathlib.Omega.{arith}
@@ -20,7 +20,11 @@ row-within n {rows} {row} h = omega (arith, mul-le-mul-right n h, suc-mul row n)
 pub place-within : {n rows row v : ℕ} → row < rows → v < n → row * n + v < rows * n
 place-within {n} h g = omega (arith, row-within n h)
 
--- rows of riders and of rider sets start below 2^16
+-- A row of n places from a on lies within a room of that size, among the first places.
+pub record Lies (a n size : ℕ) : Type 0 where
+  pub low : a ≤ 65024
+  pub within : a + n ≤ size
+
 pub row-start : (n row : ℕ) → n ≤ 512 → row < 128 → row * n ≤ 65024
 row-start n row nodes h = let few : row ≤ 127 = omega arith in omega (arith, mul-le-mul few nodes)
 
@@ -45,7 +49,7 @@ module _ (t part : List ℕ) (a b : ℕ) (order : a ≤ b) (within : b ≤ lengt
         let split : b + (filled - b) ≡ filled = omega arith in
         record {
           size = same-len-mid a (b - a) t part size;
-          later = rw (← split, ← drop-drop (filled - b) b, ← drop-drop (filled - b) b) (ap (drop (filled - b)) (drop-put a b t part order within (size ∙ mid-len a b t within)));
+          later = rw (← split, ← drop-drop (filled - b) b (putMid a (b - a) t part), ← drop-drop (filled - b) b t) (ap (drop (filled - b)) (drop-put a b t part order within (size ∙ mid-len a b t within)));
         }
 
     put-before : (i : ℕ) → i < a → getD (putMid a (b - a) t part) i 0 ≡ getD t i 0

@@ -1,9 +1,9 @@
 -- What a row starts from, one rider of its set after the other.
 use Prim.Native.Nat.{ℕ, min, _+_, _*_, _^_, _≤_, _<_}
-use mathlib.Core.Path.{_≡_, refl, sym}
+use mathlib.Core.Path.{_≡_}
 use mathlib.Core.Logic.{_≢_, _⊎_, _↔_}
 use mathlib.Core.List.{List}
-use native.Mathlib.Nat.{mul-le-mul, le-refl}
+use native.Mathlib.Nat.{le-refl}
 use native.Mathlib.Decide.{ℕ-discrete}
 use native.Mathlib.Omega.{arith}
 use lib.Count.{trailingZeros}
@@ -17,10 +17,10 @@ use Rattle.rules.specs.Rooms.{noFinish}
 use Rattle.rules.specs.declared.Request.{Request}
 use Rattle.least.specs.Least.{Least}
 use Rattle.finish.specs.Packed.{packedStep, Packed, Ends}
-use Rattle.finish.specs.Rows.{MetSeen, Outside}
+use Rattle.finish.specs.Rows.{MetSeen}
 use Rattle.finish.proofs.Sets.{has-le, has-below, none-has, without-less, without-others, lowest-rider}
 use Rattle.finish.proofs.Rows.{arrived-least, outside-more, none-seen, all-seen, rider-reaches, rider-strays}
-use Rattle.table.specs.Filling.{RowRoom, Seeing, meetingStep}
+use Rattle.table.specs.Filling.{RowReady, Seeing, meetingStep}
 use Rattle.table.proofs.RowLaws.{place-within, few-sets}
 
 -- a step that meets a rider, as the code takes it
@@ -31,9 +31,6 @@ cannot-meet weight distance e = simp (eq-eqb _ _ e)
 pub can-meet : (weight distance : ℕ) → distance ≢ noDistance → packedStep (weight * distance) ≡ meetingStep weight distance
 unfolding meetingStep
 can-meet weight distance far = simp (ne-eqb _ _ far)
-
-pub light-meeting : {weight distance : ℕ} → weight ≤ 100 → distance < 4294967296 → weight * distance ≤ 429496729500
-light-meeting {distance = distance} light h = let near : distance ≤ 4294967295 = omega arith in omega (arith, mul-le-mul light near)
 
 -- Rider j, who walks to v or cannot, is seen too.
 rider-seen : {network : List ℕ} {q : Request} {R v d rest t : ℕ} {Seen More : ℕ → Type 0} (j : ℕ) → ((i : ℕ) → More i ↔ (Seen i ⊎ (i ≡ j))) → SoundNetwork network → v < nodeCount network → Has R j → HoldsDistance network (riderNodeOf q j) v d → Least noFinish (Packed network q (without R j) v) rest → Least noFinish (MetSeen network q R Seen v) t → Least noFinish (MetSeen network q R More v) (min t (meetingStep (riderWeightOf q j) d + rest))
@@ -53,10 +50,11 @@ arrived {R = R} none here there = let empty : R ≡ 0 = omega arith in rw empty 
 pub record Next (q : Request) (R left j : ℕ) : Type 0 where
   pub has : Has left j
   pub below : j < q .count
+  pub few : j < 7
   pub within : 2 ^ j ≤ left
   pub member : 2 ^ j ≤ R
 
-module _ {network : List ℕ} {q : Request} {distances table : List ℕ} {R v : ℕ} (room : RowRoom network q distances R table) (h : v < nodeCount network) where
+module _ {network : List ℕ} {q : Request} {distances table : List ℕ} {R v : ℕ} (room : RowReady network q distances R table) (h : v < nodeCount network) where
   pub seeing-none : Seeing network q R v R noFinish
   seeing-none = record { within = le-refl R; of = λ j has. has; least = none-seen (λ j has out. out has) }
 
@@ -71,9 +69,11 @@ module _ {network : List ℕ} {q : Request} {distances table : List ℕ} {R v : 
     next-rider some =
         let low = lowest-rider 32 left (omega arith) (omega (arith, so .within, few-sets (room .walked .ready .request .riders) (room .row))) in
         let met = so .of _ (low .has) in
+        let below = has-below R _ (q .count) (room .row) met in
         record {
           has = low .has;
-          below = has-below R _ (q .count) (room .row) met;
+          below = below;
+          few = omega (arith, room .walked .ready .request .riders);
           within = has-le left _ (low .has);
           member = has-le R _ met;
         }

@@ -8,8 +8,8 @@ use lib.ListN.{length, getD, set}
 use lib.Seq.{getD-set-same, getD-set-other}
 use borrow.Author.Count.{below-more}
 use borrow.Rule.Slice.PartMut.{midOf, putMid}
-use Rattle.rules.specs.Network.{SoundNetwork, nodeCount}
-use Rattle.rules.specs.Rooms.{Kept, Table, noFinish, tablePlaces}
+use Rattle.rules.specs.Network.{nodeCount}
+use Rattle.rules.specs.Rooms.{Table, noFinish, tablePlaces}
 use Rattle.rules.specs.declared.Request.{Request}
 use Rattle.least.specs.Least.{Least}
 use Rattle.least.specs.Spread.{Spread}
@@ -17,21 +17,22 @@ use Rattle.finish.specs.Packed.{Packed, DriveArc, Ends}
 use Rattle.finish.proofs.Bounds.{least-holds}
 use Rattle.finish.proofs.Rows.{row-least}
 use Rattle.spread.specs.Driving.{LentRow}
-use Rattle.table.specs.Filling.{Walked, RowRoom, Filled, Started}
-use Rattle.table.proofs.RowLaws.{row-start, row-within, place-within, few-sets, kept-then, kept-set, part-at, put-kept, lent-row, rows-put}
+use Rattle.table.specs.Filling.{Walked, RowReady, Filled, Started}
+use Rattle.table.proofs.RowLaws.{Lies, row-start, row-within, place-within, few-sets, kept-then, kept-set, part-at, put-kept, lent-row, rows-put}
 use Rattle.table.proofs.StartLaws.{place-there}
 
-module _ {network : List ℕ} {q : Request} {distances before : List ℕ} {R : ℕ} (room : RowRoom network q distances R before) where
+module _ {network : List ℕ} {q : Request} {distances before : List ℕ} {R : ℕ} (room : RowReady network q distances R before) where
   pub started-none : Started network q R 0 before before
   started-none =
       record {
-        filled = record { below = room .below; kept = record { size = refl; later = refl } };
+        within = omega arith;
+        filled = record { within = omega (arith, room .row); below = room .below; kept = record { size = refl; later = refl } };
         starts = λ v h. absurd (omega arith);
       }
 
   module _ {x : ℕ} {t : List ℕ} (so : Started network q R x before t) where
     -- the room stays fit for row R
-    pub room-after : RowRoom network q distances R t
+    pub room-after : RowReady network q distances R t
     room-after = record { walked = room .walked; places = omega (arith, room .places, so .filled .kept .size); row = room .row; below = so .filled .below }
 
     -- the next place of row R is there
@@ -43,7 +44,9 @@ module _ {network : List ℕ} {q : Request} {distances before : List ℕ} {R : �
     started-more {place} {value} reads-place h least =
         let there : place < tablePlaces (nodeCount network) (q .count) = omega (arith, place-within (room .row) h) in
         record {
+          within = omega arith;
           filled = record {
+            within = so .filled .within;
             below = λ S v l g. rw (getD-set-other t place (S * nodeCount network + v) value 0 (λ e. absurd (omega (arith, place-within l g)))) (so .filled .below S v l g);
             kept = kept-then (so .filled .kept) (kept-set t place value there);
           };
@@ -54,39 +57,41 @@ module _ {network : List ℕ} {q : Request} {distances before : List ℕ} {R : �
 
   module _ {t : List ℕ} (so : Started network q R (nodeCount network) before t) {n : ℕ} (reads-n : n ≡ nodeCount network) where
     -- row R is there
-    pub row-there : (R * n ≤ 65024) × (R * n + n ≤ length t)
-    row-there = (
-      row-start n R (omega (arith, room .walked .ready .sound .nodes)) (few-sets (room .walked .ready .request .riders) (room .row)),
-      omega (arith, rw (← reads-n) at (room-after so .places), row-within n (room .row)),
-    )
+    pub row-there : Lies (R * n) n (length t)
+    row-there =
+        record {
+          low = row-start n R (omega (arith, room .walked .ready .sound .nodes)) (few-sets (room .walked .ready .request .riders) (room .row));
+          within = omega (arith, rw (← reads-n) at (room-after so .places), row-within n (room .row));
+        }
 
     pub row-lent : LentRow network (q .weight) (midOf (R * n) (R * n + n - R * n) t)
-    row-lent = record { lent = lent-row t _ (room .walked .ready .sound) reads-n (row-there .1); light = room .walked .ready .request .bus .1 }
+    row-lent = record { lent = lent-row t _ (room .walked .ready .sound) reads-n (row-there .within); light = room .walked .ready .request .bus .1 }
 
     -- what spreads from the starts fills the row
     pub row-filled : {part : List ℕ} → Spread noFinish (nodeCount network) (DriveArc network (q .weight)) (midOf (R * n) (R * n + n - R * n) t) part → Filled network q (R + 1) before (putMid (R * n) (R * n + n - R * n) t part)
     row-filled {part} spread =
         record {
+          within = omega (arith, room .row);
           below = λ S v h g. go S v h (rw reads-n g);
-          kept = kept-then (so .filled .kept) (put-kept t part (R * n) (R * n + n) (omega arith) (row-there .1) (spread .kept .size) (rw (← reads-n) (row-within n (room .row))));
+          kept = kept-then (so .filled .kept) (put-kept t part (R * n) (R * n + n) (omega arith) (row-there .within) (spread .kept .size) (rw (← reads-n) (row-within n (room .row))));
         }
       where
         start : (v : ℕ) → v < nodeCount network → Least noFinish (Ends network q R v) (getD (midOf (R * n) (R * n + n - R * n) t) v 0)
-        start v h = rw (part-at t part (R * n) (R * n + n) (omega arith) (row-there .1) v (omega arith), reads-n) (so .starts v h)
+        start v h = rw (part-at t part (R * n) (R * n + n) (omega arith) (row-there .within) v (omega arith), reads-n) (so .starts v h)
 
         go : (S v : ℕ) → S < R + 1 → v < n → Least noFinish (Packed network q S v) (getD (putMid (R * n) (R * n + n - R * n) t part) (S * nodeCount network + v) 0)
-        go = rw (← reads-n) (rows-put (λ S v y. Least noFinish (Packed network q S v) y) n R t part (row-there .1) (spread .kept .size) (λ S v l g. rw reads-n (so .filled .below S v l (rw (← reads-n) g))) (λ v g. row-least (room .walked .ready .sound) start spread (rw (← reads-n) g)))
+        go = rw (← reads-n) (rows-put (λ S v y. Least noFinish (Packed network q S v) y) n R t part (row-there .within) (spread .kept .size) (λ S v l g. rw reads-n (so .filled .below S v l (rw (← reads-n) g))) (λ v g. row-least (room .walked .ready .sound) start spread (rw (← reads-n) g)))
 
 module _ {network : List ℕ} {q : Request} {distances before : List ℕ} (walked : Walked network q distances) where
   pub filled-none : Filled network q 0 before before
-  filled-none = record { below = λ S v h. absurd (omega arith); kept = record { size = refl; later = refl } }
+  filled-none = record { within = omega arith; below = λ S v h. absurd (omega arith); kept = record { size = refl; later = refl } }
 
   module _ {R : ℕ} {t : List ℕ} (so : Filled network q R before t) where
-    pub next-room : tablePlaces (nodeCount network) (q .count) ≤ length before → R < 2 ^ q .count → RowRoom network q distances R t
+    pub next-room : tablePlaces (nodeCount network) (q .count) ≤ length before → R < 2 ^ q .count → RowReady network q distances R t
     next-room places h = record { walked = walked; places = omega (arith, so .kept .size); row = h; below = so .below }
 
     pub filled-more : {after : List ℕ} → Filled network q (R + 1) t after → Filled network q (R + 1) before after
-    filled-more more = record { below = more .below; kept = kept-then (so .kept) (more .kept) }
+    filled-more more = record { within = more .within; below = more .below; kept = kept-then (so .kept) (more .kept) }
 
   pub filled-all : {t : List ℕ} → Filled network q (2 ^ q .count) before t → Table network q before t
   filled-all so = record { holds = λ R v h g. least-holds (walked .ready .sound) (walked .ready .request) h g (so .below R v h g); kept = so .kept }

@@ -24,7 +24,7 @@ pub record Ready (network : List ℕ) (q : Request) (distances : List ℕ) : Typ
 abbrev pub WalkedBelow : List ℕ → Request → ℕ → List ℕ → Type 0
 WalkedBelow network q j distances = (i v : ℕ) → i < j → v < nodeCount network → HoldsDistance network (riderNodeOf q i) v (getD distances (i * nodeCount network + v) 0)
 
--- So much is done once the rows of the riders below j are filled; what lies beyond all rows is kept.
+-- The rows of the riders below j are filled; what lies beyond all rows is kept.
 pub record WalkedRows (network : List ℕ) (q : Request) (j : ℕ) (before after : List ℕ) : Type 0 where
   pub within : j ≤ q .count
   pub walks : WalkedBelow network q j after
@@ -44,13 +44,13 @@ abbrev pub FilledBelow : List ℕ → Request → ℕ → List ℕ → Type 0
 FilledBelow network q R table = (S v : ℕ) → S < R → v < nodeCount network → Least noFinish (Packed network q S v) (getD table (S * nodeCount network + v) 0)
 
 -- What row R is filled from: the walking distances and the rows below it.
-pub record RowRoom (network : List ℕ) (q : Request) (distances : List ℕ) (R : ℕ) (table : List ℕ) : Type 0 where
+pub record RowReady (network : List ℕ) (q : Request) (distances : List ℕ) (R : ℕ) (table : List ℕ) : Type 0 where
   pub walked : Walked network q distances
   pub places : tablePlaces (nodeCount network) (q .count) ≤ length table
   pub row : R < 2 ^ q .count
   pub below : FilledBelow network q R table
 
--- `value` is the least that it takes at v to meet one of the riders of R that are not left, and then to finish.
+-- Of the riders of R, those of `left` are not seen yet; `value` is the least that it takes at v to meet one of the others, and then to finish.
 pub record Seeing (network : List ℕ) (q : Request) (R v left value : ℕ) : Type 0 where
   pub within : left ≤ R
   pub of : (j : ℕ) → Has left j → Has R j
@@ -58,10 +58,12 @@ pub record Seeing (network : List ℕ) (q : Request) (R v left value : ℕ) : Ty
 
 -- The rows below R are filled; what lies beyond the table is kept.
 pub record Filled (network : List ℕ) (q : Request) (R : ℕ) (before after : List ℕ) : Type 0 where
+  pub within : R ≤ 2 ^ q .count
   pub below : FilledBelow network q R after
   pub kept : Kept (tablePlaces (nodeCount network) (q .count)) before after
 
--- Row R holds its starts at the nodes below x, behind rows that are filled.
+-- Row R holds its starts at the nodes below x, and the rows below R are filled.
 pub record Started (network : List ℕ) (q : Request) (R x : ℕ) (before after : List ℕ) : Type 0 where
+  pub within : x ≤ nodeCount network
   pub filled : Filled network q R before after
   pub starts : (v : ℕ) → v < x → Least noFinish (Ends network q R v) (getD after (R * nodeCount network + v) 0)

@@ -8,7 +8,7 @@ ghost use Prim.Native.Nat.{_+_, _≤_};
 ghost use lib.ListN.{length};
 ghost use Rattle.rules.specs.Network.{nodeCount};
 ghost use Rattle.rules.specs.Rooms.{Table, tablePlaces};
-ghost use Rattle.table.specs.Filling.{Walked, RowRoom, Filled};
+ghost use Rattle.table.specs.Filling.{Walked, RowReady, Filled};
 
 // Fills row after row, so that a row is there before any larger rider set asks for it.
 pub fn fill_table(network: &[u8], q: Request, distances: &[u32], table: &mut [u64])
@@ -25,7 +25,7 @@ pub fn fill_table(network: &[u8], q: Request, distances: &[u32], table: &mut [u6
 
 // Fills row `riders`, from the rows below it.
 fn fill_row(network: &[u8], q: Request, distances: &[u32], riders: u32, table: &mut [u64])
-    requires { ⌜ RowRoom (now network) q (now distances) riders (now table) ⌝ }
+    requires { ⌜ RowReady (now network) q (now distances) riders (now table) ⌝ }
     ensures { λ _. ⌜ Filled (now (network .entry)) q (riders + 1) (now (table .entry)) (now (table .exit)) ⌝ }
 {
     start_row(network, q, distances, riders, table);

@@ -11,7 +11,7 @@ ghost use Rattle.rules.specs.Request.{riderWeightOf};
 ghost use Rattle.rules.specs.Rooms.{noFinish};
 ghost use Rattle.least.specs.Least.{Least};
 ghost use Rattle.finish.specs.Packed.{Ends};
-ghost use Rattle.table.specs.Filling.{Ready, RowRoom, Started, meetingStep};
+ghost use Rattle.table.specs.Filling.{Ready, RowReady, Started, meetingStep};
 
 const NO_DISTANCE: u32 = 4294967295;
 
@@ -19,7 +19,7 @@ const NO_FINISH: u64 = 18446744073709551615;
 
 // Fills row `riders` with what it starts from.
 pub fn start_row(network: &[u8], q: Request, distances: &[u32], riders: u32, table: &mut [u64])
-    requires { ⌜ RowRoom (now network) q (now distances) riders (now table) ⌝ }
+    requires { ⌜ RowReady (now network) q (now distances) riders (now table) ⌝ }
     ensures { λ _. ⌜ Started (now (network .entry)) q riders (nodeCount (now (network .entry))) (now (table .entry)) (now (table .exit)) ⌝ }
 {
     let n = two(network, 5);
@@ -40,7 +40,7 @@ fn start_value(
     riders: u32,
     v: usize,
 ) -> u64
-    requires { ⌜ (v < nodeCount (now network)) × RowRoom (now network) q (now distances) riders (now table) ⌝ }
+    requires { ⌜ (v < nodeCount (now network)) × RowReady (now network) q (now distances) riders (now table) ⌝ }
     ensures { λ r. ⌜ Least noFinish (Ends (now (network .entry)) q riders v) r ⌝ }
 {
     if 0 < riders {
@@ -61,7 +61,7 @@ fn least_meeting(
     riders: u32,
     v: usize,
 ) -> u64
-    requires { ⌜ (0 < riders) × (v < nodeCount (now network)) × RowRoom (now network) q (now distances) riders (now table) ⌝ }
+    requires { ⌜ (0 < riders) × (v < nodeCount (now network)) × RowReady (now network) q (now distances) riders (now table) ⌝ }
     ensures { λ r. ⌜ Least noFinish (Ends (now (network .entry)) q riders v) r ⌝ }
 {
     let mut least = NO_FINISH;

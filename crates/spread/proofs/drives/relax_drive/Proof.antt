@@ -1,6 +1,7 @@
 use native.Mathlib.Omega.{arith}
-use Rattle.spread.proofs.DriveLinkLaws.{closed-link, no-help, step, light-step}
+use native.Mathlib.Nat.{mul-le-mul, le-of-lt}
 use borrow.Author.Needs.{needs}
+use Rattle.spread.proofs.DriveLinkLaws.{closed-link, no-help, step}
 use Rattle.spread.proofs.drives.relax_drive.Statement.{statement}
 use Rattle.spread.proofs.drives.relax_drive.Tie as tie
 
@@ -11,13 +12,13 @@ returns : tie.Need-returns
 returns c = (omega arith, closed-link (c .before .drive .ensures .value) (c .if1 .taken))
 
 mul-step : tie.Need-mul-step
-mul-step c = omega (arith, light-step (c .before .before .before .before .pre .1 .light) (c .if1 .left))
+mul-step c = omega (arith, mul-le-mul (c .before .before .before .before .pre .1 .light) (le-of-lt (c .if1 .left)))
 
 mul-step-2 : tie.Need-mul-step-2
-mul-step-2 c = omega (arith, light-step (c .before .before .before .before .pre .1 .light) (c .if1 .left))
+mul-step-2 c = omega (arith, mul-le-mul (c .before .before .before .before .pre .1 .light) (le-of-lt (c .if1 .left)))
 
 add-step : tie.Need-add-step
-add-step c = omega (arith, light-step (c .before .before .before .before .pre .1 .light) (c .if1 .left))
+add-step c = omega (arith, mul-le-mul (c .before .before .before .before .pre .1 .light) (le-of-lt (c .if1 .left)))
 
 to-requires : tie.Need-to-requires
 to-requires c κs = search needs

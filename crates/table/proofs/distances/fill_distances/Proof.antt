@@ -1,7 +1,9 @@
-use Prim.Native.Nat.{_-_}
+use Prim.Native.Nat.{_-_, _*_}
 use native.Mathlib.Omega.{arith}
+use lib.ListN.{length}
 use Rattle.table.specs.Filling.{WalkedRows}
 use Rattle.table.proofs.DistanceLaws.{row-fits, row-lent, walked-none, walked-more, walked-all}
+use Rattle.table.proofs.RowLaws.{Lies}
 use Rattle.table.proofs.distances.fill_distances.Statement.{statement}
 use Rattle.table.proofs.distances.fill_distances.Tie as tie
 
@@ -17,11 +19,14 @@ two-requires c κs = omega arith
 loop-holds : tie.Need-loop-holds Inv-loop μ-loop
 loop-holds c = walked-none
 
+fits : (c : tie.Then1 Inv-loop μ-loop) → Lies (c .before .before .loop .j * c .before .before .before .before .two .result) (c .before .before .before .before .two .result) (length (c .before .before .loop .distances))
+fits c = row-fits (c .before .before .before .before .before .before .before .pre) (c .before .before .loop .inv) (c .before .before .before .before .two .ensures .value) (c .if1 .taken)
+
 mul-a : tie.Need-mul-a Inv-loop μ-loop
-mul-a c = omega (arith, row-fits (c .before .before .before .before .before .before .before .pre) (c .before .before .loop .inv) (c .before .before .before .before .two .ensures .value) (c .if1 .taken))
+mul-a c = omega (arith, fits c)
 
 add-b : tie.Need-add-b Inv-loop μ-loop
-add-b c = omega (arith, row-fits (c .before .before .before .before .before .before .before .pre) (c .before .before .loop .inv) (c .before .before .before .before .two .ensures .value) (c .if1 .taken))
+add-b c = omega (arith, fits c)
 
 mul-walk-from : tie.Need-mul-walk-from Inv-loop μ-loop
 mul-walk-from c = omega (arith, c .before .before .before .before .before .before .before .pre .request .riders)
@@ -30,7 +35,7 @@ array-read-walk-from : tie.Need-array-read-walk-from Inv-loop μ-loop
 array-read-walk-from c = omega (arith, c .before .before .before .before .before .before .before .pre .request .riders)
 
 mul-walk-from-2 : tie.Need-mul-walk-from-2 Inv-loop μ-loop
-mul-walk-from-2 c = omega (arith, row-fits (c .before .before .before .before .before .before .before .pre) (c .before .before .loop .inv) (c .before .before .before .before .two .ensures .value) (c .if1 .taken))
+mul-walk-from-2 c = omega (arith, fits c)
 
 sub-walk-from : tie.Need-sub-walk-from Inv-loop μ-loop
 sub-walk-from c = omega arith
@@ -39,7 +44,7 @@ part-walk-from-start : tie.Need-part-walk-from-start Inv-loop μ-loop
 part-walk-from-start c = omega arith
 
 part-walk-from-end : tie.Need-part-walk-from-end Inv-loop μ-loop
-part-walk-from-end c = row-fits (c .before .before .before .before .before .before .before .pre) (c .before .before .loop .inv) (c .before .before .before .before .two .ensures .value) (c .if1 .taken) .1
+part-walk-from-end c = fits c .within
 
 walk-from-requires : tie.Need-walk-from-requires Inv-loop μ-loop
 walk-from-requires c κs = (c .before .before .before .before .before .before .before .before .pre .request .nodes _ (c .before .if1 .taken), row-lent (c .before .before .before .before .before .before .before .before .pre) (c .before .before .before .loop .inv) (c .before .before .before .before .before .two .ensures .value) (c .before .if1 .taken))

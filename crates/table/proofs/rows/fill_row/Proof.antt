@@ -26,7 +26,7 @@ part-spread-drives-start : tie.Need-part-spread-drives-start
 part-spread-drives-start c = search needs
 
 part-spread-drives-end : tie.Need-part-spread-drives-end
-part-spread-drives-end c = row-there (c .before .before .before .before .before .before .before .before .pre) (c .before .before .before .start-row .ensures) (c .two .ensures .value) .1
+part-spread-drives-end c = row-there (c .before .before .before .before .before .before .before .before .pre) (c .before .before .before .start-row .ensures) (c .two .ensures .value) .within
 
 spread-drives-requires : tie.Need-spread-drives-requires
 spread-drives-requires c κs = row-lent (c .before .before .before .before .before .before .before .before .before .pre) (c .before .before .before .before .start-row .ensures) (c .before .two .ensures .value)

@@ -1,7 +1,8 @@
 use native.Mathlib.Omega.{arith}
+use native.Mathlib.Nat.{mul-le-mul, le-of-lt}
 use borrow.Author.Needs.{needs}
 use Rattle.table.proofs.RowLaws.{place-within}
-use Rattle.table.proofs.StartLaws.{cannot-meet, can-meet, light-meeting}
+use Rattle.table.proofs.StartLaws.{cannot-meet, can-meet}
 use Rattle.table.proofs.starts.meeting_step.Statement.{statement}
 use Rattle.table.proofs.starts.meeting_step.Tie as tie
 
@@ -27,13 +28,13 @@ cast-result : tie.Need-cast-result
 cast-result c = omega (arith, c .before .before .shared-slice-known3 .given (c .before .before .before .place .result))
 
 mul-result-2 : tie.Need-mul-result-2
-mul-result-2 c = omega (arith, light-meeting (c .before .before .before .before .before .before .pre .2 .request .weights (c .before .before .before .before .before .before .args .j) (c .before .before .before .before .before .before .pre .0) .1) (c .before .before .shared-slice-known3 .given (c .before .before .before .place .result) .fits))
+mul-result-2 c = omega (arith, mul-le-mul (c .before .before .before .before .before .before .pre .2 .request .weights (c .before .before .before .before .before .before .args .j) (c .before .before .before .before .before .before .pre .0) .1) (le-of-lt (c .before .before .shared-slice-known3 .given (c .before .before .before .place .result) .fits)))
 
 mul-result-3 : tie.Need-mul-result-3
-mul-result-3 c = omega (arith, light-meeting (c .before .before .before .before .before .before .pre .2 .request .weights (c .before .before .before .before .before .before .args .j) (c .before .before .before .before .before .before .pre .0) .1) (c .before .before .shared-slice-known3 .given (c .before .before .before .place .result) .fits))
+mul-result-3 c = omega (arith, mul-le-mul (c .before .before .before .before .before .before .pre .2 .request .weights (c .before .before .before .before .before .before .args .j) (c .before .before .before .before .before .before .pre .0) .1) (le-of-lt (c .before .before .shared-slice-known3 .given (c .before .before .before .place .result) .fits)))
 
 add-result : tie.Need-add-result
-add-result c = omega (arith, light-meeting (c .before .before .before .before .before .before .pre .2 .request .weights (c .before .before .before .before .before .before .args .j) (c .before .before .before .before .before .before .pre .0) .1) (c .before .before .shared-slice-known3 .given (c .before .before .before .place .result) .fits))
+add-result c = omega (arith, mul-le-mul (c .before .before .before .before .before .before .pre .2 .request .weights (c .before .before .before .before .before .before .args .j) (c .before .before .before .before .before .before .pre .0) .1) (le-of-lt (c .before .before .shared-slice-known3 .given (c .before .before .before .place .result) .fits)))
 
 returns-2 : tie.Need-returns-2
 returns-2 c = rw (← c .before .before .before .place .ensures .value) (can-meet _ _ (c .before .if1 .left))
