@@ -1,14 +1,14 @@
 -- Rows of a room: where they lie, and what the room holds once a row that was lent is back.
 use Prim.Native.Nat.{ℕ, _+_, _-_, _*_, _^_, _≤_, _<_}
 use mathlib.Core.Path.{_≡_, _∙_, ap}
-use mathlib.Core.List.{List, _++_}
+use mathlib.Core.List.{List}
 use native.Mathlib.Nat.{mul-le-mul, mul-le-mul-right, suc-mul}
 use native.Mathlib.Omega.{arith}
 use lib.ListN.{length, getD, set, take, drop, length-set, List·getD-append}
 use lib.Seq.{length-take-le, getD-take, getD-drop, getD-append-add, drop-drop, drop-set-lt}
 use lib.Pow.{pow-mono}
 use borrow.Author.Count.{below-more}
-use borrow.Rule.Slice.PartMut.{midOf, postOf, putMid, mid-len, same-len-mid, drop-put}
+use borrow.Rule.Slice.PartMut.{midOf, putMid, mid-len, same-len-mid, drop-put}
 use Rattle.rules.specs.Network.{SoundNetwork, nodeCount}
 use Rattle.rules.specs.Rooms.{Kept}
 use Rattle.spread.specs.Walking.{Lent}
@@ -20,7 +20,7 @@ row-within n {rows} {row} h = omega (arith, mul-le-mul-right n h, suc-mul row n)
 pub place-within : {n rows row v : ℕ} → row < rows → v < n → row * n + v < rows * n
 place-within {n} h g = omega (arith, row-within n h)
 
--- A row of n places from a on lies within a room of that size, among the first places.
+-- A row of n places from a on lies within a room of that size, and a is small.
 pub record Lies (a n size : ℕ) : Type 0 where
   pub low : a ≤ 65024
   pub within : a + n ≤ size
@@ -38,39 +38,46 @@ kept-then one other = record { size = other .size ∙ one .size; later = other .
 pub kept-set : {filled : ℕ} (t : List ℕ) (i x : ℕ) → i < filled → Kept filled t (set t i x)
 kept-set {filled} t i x h = record { size = length-set t i x; later = drop-set-lt filled t i x h }
 
--- a part that was lent, from a to b, and what came back
-module _ (t part : List ℕ) (a b : ℕ) (order : a ≤ b) (within : b ≤ length t) where
-  pub part-at : (v : ℕ) → v < b - a → getD (midOf a (b - a) t) v 0 ≡ getD t (a + v) 0
-  part-at v h = getD-take (b - a) (drop a t) v 0 h ∙ getD-drop a t v 0
+-- a row of n places, and a room once that row, lent as its part from row·n on, has come back
+abbrev pub rowOf : ℕ → ℕ → List ℕ → List ℕ
+rowOf n row t = midOf (row * n) (row * n + n - row * n) t
 
-  module _ (size : length part ≡ length (midOf a (b - a) t)) where
-    pub put-kept : {filled : ℕ} → b ≤ filled → Kept filled t (putMid a (b - a) t part)
-    put-kept {filled} h =
-        let split : b + (filled - b) ≡ filled = omega arith in
-        record {
-          size = same-len-mid a (b - a) t part size;
-          later = rw (← split, ← drop-drop (filled - b) b (putMid a (b - a) t part), ← drop-drop (filled - b) b t) (ap (drop (filled - b)) (drop-put a b t part order within (size ∙ mid-len a b t within)));
-        }
+abbrev pub putRow : ℕ → ℕ → List ℕ → List ℕ → List ℕ
+putRow n row t part = putMid (row * n) (row * n + n - row * n) t part
 
-    put-before : (i : ℕ) → i < a → getD (putMid a (b - a) t part) i 0 ≡ getD t i 0
-    put-before i h =
-        let front : length (take a t) ≡ a = length-take-le a t (omega arith) in
-        List·getD-append (take a t) (part ++ postOf a (b - a) t) 0 i (omega arith) ∙ getD-take a t i 0 h
-
-    put-at : (v : ℕ) → v < b - a → getD (putMid a (b - a) t part) (a + v) 0 ≡ getD part v 0
-    put-at v h =
-        let front : length (take a t) ≡ a = length-take-le a t (omega arith) in
-        let found : getD (take a t ++ (part ++ postOf a (b - a) t)) (length (take a t) + v) 0 ≡ getD part v 0 = getD-append-add (take a t) _ v 0 ∙ List·getD-append part _ 0 v (omega (arith, mid-len a b t within)) in
-        rw front at found
+pub row-at : (n row : ℕ) (t : List ℕ) (v : ℕ) → v < n → getD (rowOf n row t) v 0 ≡ getD t (row * n + v) 0
+row-at n row t v h = getD-take (row * n + n - row * n) (drop (row * n) t) v 0 (omega arith) ∙ getD-drop (row * n) t v 0
 
 -- a row is room enough for an engine
-pub lent-row : {network : List ℕ} (t : List ℕ) (a : ℕ) {n : ℕ} → SoundNetwork network → n ≡ nodeCount network → a + n ≤ length t → Lent network (midOf a (a + n - a) t)
-lent-row t a {n} sound reads-n within = record { sound = sound; places = omega (arith, mid-len a (a + n) t within) }
+pub lent-row : {network : List ℕ} (t : List ℕ) (row : ℕ) → SoundNetwork network → row * nodeCount network + nodeCount network ≤ length t → Lent network (rowOf (nodeCount network) row t)
+lent-row {network} t row sound within = record { sound = sound; places = omega (arith, mid-len (row * nodeCount network) _ t within) }
 
--- what holds of the rows below a row, and of that row's part, holds of the rows up to it
-pub rows-put : (P : ℕ → ℕ → ℕ → Type 0) (n row : ℕ) (t part : List ℕ) → row * n + n ≤ length t → length part ≡ length (midOf (row * n) (row * n + n - row * n) t) → ((i v : ℕ) → i < row → v < n → P i v (getD t (i * n + v) 0)) → ((v : ℕ) → v < n → P row v (getD part v 0)) → (i v : ℕ) → i < row + 1 → v < n → P i v (getD (putMid (row * n) (row * n + n - row * n) t part) (i * n + v) 0)
-rows-put P n row t part within size below here i v h g =
-    below-more (λ (i : ℕ). (v : ℕ) → v < n → P i v (getD (putMid (row * n) (row * n + n - row * n) t part) (i * n + v) 0)) row
-    (λ i h v g. rw (put-before t part (row * n) (row * n + n) (omega arith) within size (i * n + v) (place-within h g)) (below i v h g))
-    (λ v g. rw (put-at t part (row * n) (row * n + n) (omega arith) within size v (omega arith)) (here v g))
-    i h v g
+module _ (n row : ℕ) (t part : List ℕ) (within : row * n + n ≤ length t) (size : length part ≡ length (rowOf n row t)) where
+  pub row-kept : {filled : ℕ} → row * n + n ≤ filled → Kept filled t (putRow n row t part)
+  row-kept {filled} h =
+      let e = row * n + n in
+      let rest = filled - e in
+      let split : e + rest ≡ filled = omega arith in
+      record {
+        size = same-len-mid (row * n) (e - row * n) t part size;
+        later = rw (← split, ← drop-drop rest e (putRow n row t part), ← drop-drop rest e t) (ap (drop rest) (drop-put (row * n) e t part (omega arith) within (size ∙ mid-len (row * n) e t within)));
+      }
+
+  front : length (take (row * n) t) ≡ row * n
+  front = length-take-le (row * n) t (omega arith)
+
+  put-before : (i : ℕ) → i < row * n → getD (putRow n row t part) i 0 ≡ getD t i 0
+  put-before i h = List·getD-append (take (row * n) t) _ 0 i (omega (arith, front)) ∙ getD-take (row * n) t i 0 h
+
+  put-at : (v : ℕ) → v < n → getD (putRow n row t part) (row * n + v) 0 ≡ getD part v 0
+  put-at v h =
+      let found : getD (putRow n row t part) (length (take (row * n) t) + v) 0 ≡ getD part v 0 = getD-append-add (take (row * n) t) _ v 0 ∙ List·getD-append part _ 0 v (omega (arith, size, mid-len (row * n) (row * n + n) t within)) in
+      rw front at found
+
+  -- what holds of the rows below a row, and of what came back, holds of the rows up to it
+  pub rows-put : (P : ℕ → ℕ → ℕ → Type 0) → ((i v : ℕ) → i < row → v < n → P i v (getD t (i * n + v) 0)) → ((v : ℕ) → v < n → P row v (getD part v 0)) → (i v : ℕ) → i < row + 1 → v < n → P i v (getD (putRow n row t part) (i * n + v) 0)
+  rows-put P below here i v h g =
+      below-more (λ (i : ℕ). (v : ℕ) → v < n → P i v (getD (putRow n row t part) (i * n + v) 0)) row
+      (λ i h v g. rw (put-before (i * n + v) (place-within h g)) (below i v h g))
+      (λ v g. rw (put-at v g) (here v g))
+      i h v g

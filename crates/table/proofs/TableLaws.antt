@@ -7,7 +7,6 @@ use native.Mathlib.Omega.{arith}
 use lib.ListN.{length, getD, set}
 use lib.Seq.{getD-set-same, getD-set-other}
 use borrow.Author.Count.{below-more}
-use borrow.Rule.Slice.PartMut.{midOf, putMid}
 use Rattle.rules.specs.Network.{nodeCount}
 use Rattle.rules.specs.Rooms.{Table, noFinish, tablePlaces}
 use Rattle.rules.specs.declared.Request.{Request}
@@ -18,7 +17,7 @@ use Rattle.finish.proofs.Bounds.{least-holds}
 use Rattle.finish.proofs.Rows.{row-least}
 use Rattle.spread.specs.Driving.{LentRow}
 use Rattle.table.specs.Filling.{Walked, RowReady, Filled, Started}
-use Rattle.table.proofs.RowLaws.{Lies, row-start, row-within, place-within, few-sets, kept-then, kept-set, part-at, put-kept, lent-row, rows-put}
+use Rattle.table.proofs.RowLaws.{Lies, rowOf, putRow, row-start, row-within, row-at, row-kept, place-within, few-sets, kept-then, kept-set, lent-row, rows-put}
 use Rattle.table.proofs.StartLaws.{place-there}
 
 module _ {network : List ℕ} {q : Request} {distances before : List ℕ} {R : ℕ} (room : RowReady network q distances R before) where
@@ -55,32 +54,29 @@ module _ {network : List ℕ} {q : Request} {distances before : List ℕ} {R : �
               (rw (← reads-place, getD-set-same t place value 0 (omega (arith, start-there h))) least);
         }
 
-  module _ {t : List ℕ} (so : Started network q R (nodeCount network) before t) {n : ℕ} (reads-n : n ≡ nodeCount network) where
+  module _ {t : List ℕ} (so : Started network q R (nodeCount network) before t) where
     -- row R is there
-    pub row-there : Lies (R * n) n (length t)
+    pub row-there : Lies (R * nodeCount network) (nodeCount network) (length t)
     row-there =
         record {
-          low = row-start n R (omega (arith, room .walked .ready .sound .nodes)) (few-sets (room .walked .ready .request .riders) (room .row));
-          within = omega (arith, rw (← reads-n) at (room-after so .places), row-within n (room .row));
+          low = row-start (nodeCount network) R (room .walked .ready .sound .nodes) (few-sets (room .walked .ready .request .riders) (room .row));
+          within = omega (arith, room-after so .places, row-within (nodeCount network) (room .row));
         }
 
-    pub row-lent : LentRow network (q .weight) (midOf (R * n) (R * n + n - R * n) t)
-    row-lent = record { lent = lent-row t _ (room .walked .ready .sound) reads-n (row-there .within); light = room .walked .ready .request .bus .1 }
+    pub row-lent : LentRow network (q .weight) (rowOf (nodeCount network) R t)
+    row-lent = record { lent = lent-row t R (room .walked .ready .sound) (row-there .within); light = room .walked .ready .request .bus .1 }
 
     -- what spreads from the starts fills the row
-    pub row-filled : {part : List ℕ} → Spread noFinish (nodeCount network) (DriveArc network (q .weight)) (midOf (R * n) (R * n + n - R * n) t) part → Filled network q (R + 1) before (putMid (R * n) (R * n + n - R * n) t part)
+    pub row-filled : {part : List ℕ} → Spread noFinish (nodeCount network) (DriveArc network (q .weight)) (rowOf (nodeCount network) R t) part → Filled network q (R + 1) before (putRow (nodeCount network) R t part)
     row-filled {part} spread =
         record {
           within = omega (arith, room .row);
-          below = λ S v h g. go S v h (rw reads-n g);
-          kept = kept-then (so .filled .kept) (put-kept t part (R * n) (R * n + n) (omega arith) (row-there .within) (spread .kept .size) (rw (← reads-n) (row-within n (room .row))));
+          below = rows-put (nodeCount network) R t part (row-there .within) (spread .kept .size) (λ S v x. Least noFinish (Packed network q S v) x) (so .filled .below) (λ v. row-least (room .walked .ready .sound) starts spread);
+          kept = kept-then (so .filled .kept) (row-kept (nodeCount network) R t part (row-there .within) (spread .kept .size) (row-within (nodeCount network) (room .row)));
         }
       where
-        start : (v : ℕ) → v < nodeCount network → Least noFinish (Ends network q R v) (getD (midOf (R * n) (R * n + n - R * n) t) v 0)
-        start v h = rw (part-at t part (R * n) (R * n + n) (omega arith) (row-there .within) v (omega arith), reads-n) (so .starts v h)
-
-        go : (S v : ℕ) → S < R + 1 → v < n → Least noFinish (Packed network q S v) (getD (putMid (R * n) (R * n + n - R * n) t part) (S * nodeCount network + v) 0)
-        go = rw (← reads-n) (rows-put (λ S v y. Least noFinish (Packed network q S v) y) n R t part (row-there .within) (spread .kept .size) (λ S v l g. rw reads-n (so .filled .below S v l (rw (← reads-n) g))) (λ v g. row-least (room .walked .ready .sound) start spread (rw (← reads-n) g)))
+        starts : (v : ℕ) → v < nodeCount network → Least noFinish (Ends network q R v) (getD (rowOf (nodeCount network) R t) v 0)
+        starts v h = rw (row-at (nodeCount network) R t v h) (so .starts v h)
 
 module _ {network : List ℕ} {q : Request} {distances before : List ℕ} (walked : Walked network q distances) where
   pub filled-none : Filled network q 0 before before
