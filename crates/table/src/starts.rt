@@ -3,7 +3,7 @@ use crate::places::place;
 use crate::places::rider_bit;
 use records::inner::two;
 use rules::Request;
-ghost use Prim.Native.Nat.{_+_, _*_, _<_, _^_, min};
+ghost use Prim.Native.Nat.{_+_, _*_, _<_, min};
 ghost use mathlib.Core.Path.{_≡_};
 ghost use lib.ListN.{getD};
 ghost use Rattle.rules.specs.Network.{nodeCount};
