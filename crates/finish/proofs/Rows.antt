@@ -33,6 +33,9 @@ outside-more left j has i = (
   ⊎-elim (λ out h. out (without-others left j has i .0 h .0)) (λ e h. without-others left j has i .0 h .1 e),
 )
 
+pub drives-inside : {network : List ℕ} {weight : ℕ} → SoundNetwork network → Inside (nodeCount network) (DriveArc network weight)
+drives-inside sound u v w h a = omega (arith, sound .ends (a .0) (a .1 .leads .exists))
+
 module _ {network : List ℕ} {q : Request} where
   -- Row 0: 0 at the target, and none elsewhere.
   pub arrived-least : {v value : ℕ} → (v ≡ q .target → value ≡ 0) → (v ≢ q .target → value ≡ noFinish) → Least noFinish (Ends network q 0 v) value
@@ -82,9 +85,6 @@ module _ {network : List ℕ} {q : Request} where
           let same : min t noFinish ≡ t = omega arith in
           rw same at (least-iff seen-more (least-min s (least-none (λ x m. away .0 _ _ (m .walks .walked)))))
 
-  pub drives-inside : SoundNetwork network → Inside (nodeCount network) (DriveArc network q)
-  drives-inside sound u v w h a = omega (arith, sound .ends (a .0) (a .1 .leads .exists))
-
   -- What spreads over drive arcs from the starts of row R is row R: it is least over trips to those starts, so over trips to all that they are the least of, and those are the packed finishes.
-  pub row-least : {R v : ℕ} {before after : List ℕ} → SoundNetwork network → ((x : ℕ) → x < nodeCount network → Least noFinish (Ends network q R x) (getD before x 0)) → Spread noFinish (nodeCount network) (DriveArc network q) before after → v < nodeCount network → Least noFinish (Packed network q R v) (getD after v 0)
+  pub row-least : {R v : ℕ} {before after : List ℕ} → SoundNetwork network → ((x : ℕ) → x < nodeCount network → Least noFinish (Ends network q R x) (getD before x 0)) → Spread noFinish (nodeCount network) (DriveArc network (q .weight)) before after → v < nodeCount network → Least noFinish (Packed network q R v) (getD after v 0)
   row-least {R} {v} sound starts spread h = least-iff (λ x. (packed-trip .1, packed-trip .0)) (compose (drives-inside sound) starts v h (spread .least v h))

@@ -23,14 +23,14 @@ pub record Packed (network : List ℕ) (q : Request) (R v x : ℕ) : Type 0 wher
   pub finishes : Finish network q R v steps cost
   pub packs : x ≡ 4096 * cost + length steps
 
--- To drive link k from v to x takes w.
-pub record DriveLink (network : List ℕ) (q : Request) (k v x w : ℕ) : Type 0 where
+-- To drive link k from v to x takes w, for a bus of that weight.
+pub record DriveLink (network : List ℕ) (weight k v x w : ℕ) : Type 0 where
   pub cost : ℕ
   pub leads : Drivable network k v x cost
-  pub packs : w ≡ packedStep (q .weight * cost)
+  pub packs : w ≡ packedStep (weight * cost)
 
-abbrev pub DriveArc : List ℕ → Request → Arcs
-DriveArc network q = Linked (DriveLink network q)
+abbrev pub DriveArc : List ℕ → ℕ → Arcs
+DriveArc network weight = Linked (DriveLink network weight)
 
 -- To meet rider j of R at v, and then to finish from there, takes x.
 pub record Met (network : List ℕ) (q : Request) (R v j x : ℕ) : Type 0 where

@@ -3,16 +3,17 @@ use Prim.Native.Nat.{ℕ, zero, suc, _+_, _<_, _≤_}
 use native.Mathlib.Omega.{arith}
 use native.Mathlib.Decide.{ℕ-discrete}
 use borrow.Author.Count.{below-more}
-use mathlib.Core.Path.{_≡_, refl, sym, _∙_, ap}
+use mathlib.Core.Path.{_≡_, refl, _∙_, ap}
 use mathlib.Core.List.{List, [], _∷_}
 use lib.ListN.{length, getD, set, drop, length-set}
 use lib.Seq.{getD-set-same, getD-set-other, drop-set-lt}
 use Rattle.rules.specs.Rooms.{Kept}
-use Rattle.least.specs.Trips.{Arcs, Inits, Inside, Starts}
+use Rattle.least.specs.Trips.{Arcs, Inits, Inside}
 use Rattle.least.specs.Least.{Tentative}
 use Rattle.least.specs.Spread.{Spread}
 use Rattle.least.specs.Walking.{Linked}
 use Rattle.least.proofs.Trips.{tentative, relax, fixpoint}
+use Rattle.spread.specs.Walking.{Lent}
 use Rattle.spread.specs.Relaxing.{Relaxing, still, lowered, Relaxed, RelaxedBelow, total, Progress}
 
 -- a property of every place after one store
@@ -35,6 +36,10 @@ module _ {n : ℕ} {Arc : Arcs} {before : List ℕ} where
         size = ap length e ∙ length-set mid u _ ∙ kept .size;
         later = ap (drop n) e ∙ drop-set-lt n mid u _ h ∙ kept .later;
       }
+
+  -- what an engine is lent stays fit for it
+  pub lent-after : {network after : List ℕ} → Lent network before → Relaxing n Arc before after → Lent network after
+  lent-after lent so = record { sound = lent .sound; places = omega (arith, relaxing-kept so .size) }
 
   module _ {cap : ℕ} {Init : Inits} (inside : Inside n Arc) (fits : n ≤ length before) where
     pub relaxing-sums : {after : List ℕ} → ((u : ℕ) → u < n → Tentative cap Arc Init u (getD before u 0)) → Relaxing n Arc before after → (u : ℕ) → u < n → Tentative cap Arc Init u (getD after u 0)
@@ -59,6 +64,10 @@ module _ {n : ℕ} {Arc : Arcs} where
         quiet = λ e. absurd (omega arith);
         falls = λ g. lower-total t u _ less;
       }
+
+  -- a link whose only arc makes no sum smaller
+  pub only-arc : (Link : ℕ → Arcs) (k : ℕ) {t : List ℕ} {u v w : ℕ} → ((x y z : ℕ) → Link k x y z → (x ≡ u) × (y ≡ v) × (z ≡ w)) → getD t u 0 ≤ w + getD t v 0 → Progress n Arc (Relaxed Link k) t t 0
+  only-arc Link k only h = progress-none (λ x y z link. let (a, b, c) = only x y z link in rw (a, b, c) h)
 
   no-rise : {S : List ℕ → Type 0} {before after : List ℕ} (changes : ℕ) → Progress n Arc S before after changes → total after ≤ total before
   no-rise zero so = omega (arith, ap total (so .quiet refl .0))

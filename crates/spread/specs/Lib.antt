@@ -1,2 +1,3 @@
 pub mod Relaxing
 pub mod Walking
+pub mod Driving

@@ -1,2 +1,4 @@
-// The network engine: it spreads least sums over the arcs of a network.
+// The network engines: they spread least sums over the arcs of a network.
+mod drives;
 pub mod inner;
+mod walks;

@@ -2,14 +2,13 @@ use mathlib.Core.Path.{_≡_}
 use native.Mathlib.Omega.{arith}
 use borrow.Author.Needs.{needs}
 use Prim.Native.Nat.{_-_, _≤_}
-use native.Mathlib.Omega.{arith}
 use Rattle.rules.specs.Network.{nodeCount, linkCount}
 use Rattle.least.specs.Walking.{WalkBack}
 use Rattle.spread.specs.Relaxing.{Progress, RelaxedBelow}
 use Rattle.spread.specs.Walking.{WalkLink}
-use Rattle.spread.proofs.RelaxingLaws.{progress-none, next-link, relaxing-kept}
-use Rattle.spread.proofs.inner.walk_round.Statement.{statement}
-use Rattle.spread.proofs.inner.walk_round.Tie as tie
+use Rattle.spread.proofs.RelaxingLaws.{progress-none, next-link, relaxing-kept, lent-after}
+use Rattle.spread.proofs.walks.walk_round.Statement.{statement}
+use Rattle.spread.proofs.walks.walk_round.Tie as tie
 
 abbrev Inv-loop : tie.InvT-loop
 Inv-loop network distances₀ m changes₀ k₀ distances changes k =
@@ -27,14 +26,7 @@ loop-holds : tie.Need-loop-holds Inv-loop μ-loop
 loop-holds c = (omega arith, omega arith, progress-none (λ i h. absurd (omega arith)))
 
 relax-walk-requires : tie.Need-relax-walk-requires Inv-loop μ-loop
-relax-walk-requires c κs =
-    let lent = c .before .before .before .before .before .before .pre in (
-      omega arith,
-      record {
-        sound = lent .sound;
-        places = omega (arith, relaxing-kept (c .before .before .loop .inv .2 .relaxing) .size);
-      },
-    )
+relax-walk-requires c κs = (omega arith, lent-after (c .before .before .before .before .before .before .pre) (c .before .before .loop .inv .2 .relaxing))
 
 add-changes : tie.Need-add-changes Inv-loop μ-loop
 add-changes c = search needs

@@ -5,9 +5,9 @@ use mathlib.Core.Path.{refl}
 use Rattle.rules.specs.Network.{nodeCount}
 use Rattle.least.specs.Walking.{WalkBack}
 use Rattle.spread.specs.Relaxing.{Relaxing, still, total}
-use Rattle.spread.proofs.RelaxingLaws.{relaxing-kept, relaxing-then, spreads}
-use Rattle.spread.proofs.inner.spread_walks.Statement.{statement}
-use Rattle.spread.proofs.inner.spread_walks.Tie as tie
+use Rattle.spread.proofs.RelaxingLaws.{lent-after, relaxing-kept, relaxing-then, spreads}
+use Rattle.spread.proofs.walks.spread_walks.Statement.{statement}
+use Rattle.spread.proofs.walks.spread_walks.Tie as tie
 
 abbrev Inv-loop : tie.InvT-loop
 Inv-loop network distances₀ distances = Relaxing (nodeCount network) (WalkBack network) distances₀ distances
@@ -19,8 +19,7 @@ loop-holds : tie.Need-loop-holds Inv-loop μ-loop
 loop-holds c = still refl
 
 walk-round-requires : tie.Need-walk-round-requires Inv-loop μ-loop
-walk-round-requires c κs =
-    record { sound = c .before .before .before .before .pre .sound; places = omega (arith, c .before .before .before .before .pre .places, relaxing-kept (c .before .loop .inv) .size) }
+walk-round-requires c κs = lent-after (c .before .before .before .before .pre) (c .before .loop .inv)
 
 loop-less : tie.Need-loop-less Inv-loop μ-loop
 loop-less c = c .before .before .before .walk-round .ensures .falls (omega arith)

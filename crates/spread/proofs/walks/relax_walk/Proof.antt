@@ -1,9 +1,8 @@
 use native.Mathlib.Omega.{arith}
-use native.Mathlib.Omega.{arith}
 use Rattle.spread.proofs.WalkLinkLaws.{closed-link, no-help, step}
 use borrow.Author.Needs.{needs}
-use Rattle.spread.proofs.inner.relax_walk.Statement.{statement}
-use Rattle.spread.proofs.inner.relax_walk.Tie as tie
+use Rattle.spread.proofs.walks.relax_walk.Statement.{statement}
+use Rattle.spread.proofs.walks.relax_walk.Tie as tie
 
 walk-requires : tie.Need-walk-requires
 walk-requires c κs = search needs

@@ -1,0 +1,70 @@
+use mathlib.Core.Path.{_≡_}
+use native.Mathlib.Omega.{arith}
+use borrow.Author.Needs.{needs}
+use Prim.Native.Nat.{_-_, _≤_}
+use Rattle.rules.specs.Network.{nodeCount, linkCount}
+use Rattle.finish.specs.Packed.{DriveLink, DriveArc}
+use Rattle.spread.specs.Relaxing.{Progress, RelaxedBelow}
+use Rattle.spread.proofs.RelaxingLaws.{progress-none, next-link, relaxing-kept, lent-after}
+use Rattle.spread.proofs.drives.drive_round.Statement.{statement}
+use Rattle.spread.proofs.drives.drive_round.Tie as tie
+
+abbrev Inv-loop : tie.InvT-loop
+Inv-loop network weight row₀ m changes₀ k₀ row changes k =
+    (k ≤ m)
+    × (changes ≤ k)
+    × Progress (nodeCount network) (DriveArc network weight) (RelaxedBelow (DriveLink network weight) k) row₀ row changes
+
+abbrev μ-loop : tie.MeasureT-loop
+μ-loop network weight row₀ m changes₀ k₀ row changes k = m - k
+
+two-requires : tie.Need-two-requires Inv-loop μ-loop
+two-requires c κs = c .before .before .pre .lent .sound .long
+
+loop-holds : tie.Need-loop-holds Inv-loop μ-loop
+loop-holds c = (omega arith, omega arith, progress-none (λ i h. absurd (omega arith)))
+
+relax-drive-requires : tie.Need-relax-drive-requires Inv-loop μ-loop
+relax-drive-requires c κs =
+    let may = c .before .before .before .before .before .before .pre in
+    (omega arith, record { lent = lent-after (may .lent) (c .before .before .loop .inv .2 .relaxing); light = may .light })
+
+add-changes : tie.Need-add-changes Inv-loop μ-loop
+add-changes c = search needs
+
+add-k : tie.Need-add-k Inv-loop μ-loop
+add-k c = search needs
+
+loop-less : tie.Need-loop-less Inv-loop μ-loop
+loop-less c = search needs
+
+loop-again : tie.Need-loop-again Inv-loop μ-loop
+loop-again c = (
+  omega arith,
+  omega arith,
+  next-link (c .before .before .before .before .before .loop .inv .2) (c .before .before .relax-drive .ensures .1),
+)
+
+same-length : tie.Need-same-length Inv-loop μ-loop
+same-length c = relaxing-kept (c .before .loop .inv .2 .relaxing) .size
+
+returns : tie.Need-returns Inv-loop μ-loop
+returns c =
+    let all : c .before .loop .k ≡ linkCount (c .before .before .before .before .before .args .network .now) = omega arith in
+    rw all at (c .before .loop .inv .2)
+
+pub drive-round-spec : {M : Type 1} → statement M
+drive-round-spec =
+    tie.close
+    (tie.spec
+    Inv-loop
+    μ-loop
+    two-requires
+    loop-holds
+    relax-drive-requires
+    add-changes
+    add-k
+    loop-less
+    loop-again
+    same-length
+    returns)

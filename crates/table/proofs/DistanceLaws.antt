@@ -1,0 +1,52 @@
+-- Distances, one rider's row after the other.
+use Prim.Native.Nat.{ℕ, _+_, _-_, _*_, _≤_, _<_}
+use mathlib.Core.Path.{_≡_, refl}
+use mathlib.Core.List.{List}
+use native.Mathlib.Omega.{arith}
+use lib.ListN.{length}
+use Rattle.rules.specs.Network.{nodeCount}
+use Rattle.rules.specs.Request.{riderNodeOf}
+use Rattle.rules.specs.Walks.{HoldsDistance}
+use Rattle.rules.specs.Rooms.{Distances}
+use Rattle.rules.specs.declared.Request.{Request}
+use Rattle.spread.specs.Walking.{Lent}
+use Rattle.walk.specs.Row.{Row}
+use Rattle.table.specs.Filling.{Ready, Walked, WalkedRows}
+use Rattle.table.proofs.RowLaws.{Lies, rowOf, putRow, lent-row, row-start, row-within, row-kept, kept-then, rows-put}
+
+module _ {network : List ℕ} {q : Request} {before : List ℕ} where
+  pub walked-none : WalkedRows network q 0 before before
+  walked-none = record { within = omega arith; walks = λ i v h. absurd (omega arith); kept = record { size = refl; later = refl } }
+
+  module _ (ready : Ready network q before) {j : ℕ} {t : List ℕ} (so : WalkedRows network q j before t) where
+    -- the next row is there
+    pub row-fits : j < q .count → Lies (j * nodeCount network) (nodeCount network) (length t)
+    row-fits h =
+        record {
+          low = row-start (nodeCount network) j (ready .sound .nodes) (omega (arith, ready .request .riders));
+          within = omega (arith, ready .places, row-within (nodeCount network) h, so .kept .size);
+        }
+
+    pub row-lent : j < q .count → Lent network (rowOf (nodeCount network) j t)
+    row-lent h = lent-row t j (ready .sound) (row-fits h .within)
+
+    pub walked-more : {part : List ℕ} → j < q .count → Row network (riderNodeOf q j) (rowOf (nodeCount network) j t) part → WalkedRows network q (j + 1) before (putRow (nodeCount network) j t part)
+    walked-more {part} h row =
+        let fits = row-fits h .within in
+        record {
+          within = omega arith;
+          walks = rows-put (nodeCount network) j t part fits (row .kept .size) (λ i v x. HoldsDistance network (riderNodeOf q i) v x) (so .walks) (row .holds);
+          kept = kept-then (so .kept) (row-kept (nodeCount network) j t part fits (row .kept .size) (row-within (nodeCount network) h));
+        }
+
+    -- the last row was filled
+    pub walked-all : q .count ≤ j → Distances network q before t
+    walked-all all = let e : j ≡ q .count = omega (arith, so .within) in record { holds = rw e at (so .walks); kept = so .kept }
+
+-- what the work table is filled from
+pub distances-walked : {network : List ℕ} {q : Request} {before after : List ℕ} → Ready network q before → Distances network q before after → Walked network q after
+distances-walked ready so =
+    record {
+      ready = record { sound = ready .sound; request = ready .request; places = omega (arith, so .kept .size, ready .places) };
+      walks = so .holds;
+    }

@@ -1,0 +1,88 @@
+use Prim.Native.Nat.{_-_, _*_}
+use native.Mathlib.Omega.{arith}
+use lib.ListN.{length}
+use Rattle.table.specs.Filling.{WalkedRows}
+use Rattle.table.proofs.DistanceLaws.{row-fits, row-lent, walked-none, walked-more, walked-all}
+use Rattle.table.proofs.RowLaws.{Lies}
+use Rattle.table.proofs.distances.fill_distances.Statement.{statement}
+use Rattle.table.proofs.distances.fill_distances.Tie as tie
+
+abbrev Inv-loop : tie.InvT-loop
+Inv-loop network q distances₀ n nodes j₀ distances j = WalkedRows network q j distances₀ distances
+
+abbrev μ-loop : tie.MeasureT-loop
+μ-loop network q distances₀ n nodes j₀ distances j = q .count - j
+
+two-requires : tie.Need-two-requires Inv-loop μ-loop
+two-requires c κs = omega arith
+
+loop-holds : tie.Need-loop-holds Inv-loop μ-loop
+loop-holds c = walked-none
+
+fits : (c : tie.Then1 Inv-loop μ-loop) → Lies (c .before .before .loop .j * c .before .before .before .before .two .result) (c .before .before .before .before .two .result) (length (c .before .before .loop .distances))
+fits c = rw (c .before .before .before .before .two .ensures .value) (row-fits (c .before .before .before .before .before .before .before .pre) (c .before .before .loop .inv) (c .if1 .taken))
+
+mul-a : tie.Need-mul-a Inv-loop μ-loop
+mul-a c = omega (arith, fits c)
+
+add-b : tie.Need-add-b Inv-loop μ-loop
+add-b c = omega (arith, fits c)
+
+mul-walk-from : tie.Need-mul-walk-from Inv-loop μ-loop
+mul-walk-from c = omega (arith, c .before .before .before .before .before .before .before .pre .request .riders)
+
+array-read-walk-from : tie.Need-array-read-walk-from Inv-loop μ-loop
+array-read-walk-from c = omega (arith, c .before .before .before .before .before .before .before .pre .request .riders)
+
+mul-walk-from-2 : tie.Need-mul-walk-from-2 Inv-loop μ-loop
+mul-walk-from-2 c = omega (arith, fits c)
+
+sub-walk-from : tie.Need-sub-walk-from Inv-loop μ-loop
+sub-walk-from c = omega arith
+
+part-walk-from-start : tie.Need-part-walk-from-start Inv-loop μ-loop
+part-walk-from-start c = omega arith
+
+part-walk-from-end : tie.Need-part-walk-from-end Inv-loop μ-loop
+part-walk-from-end c = fits c .within
+
+walk-from-requires : tie.Need-walk-from-requires Inv-loop μ-loop
+walk-from-requires c κs = (c .before .before .before .before .before .before .before .before .pre .request .nodes _ (c .before .if1 .taken), rw (c .before .before .before .before .before .two .ensures .value) (row-lent (c .before .before .before .before .before .before .before .before .pre) (c .before .before .before .loop .inv) (c .before .if1 .taken)))
+
+add-j : tie.Need-add-j Inv-loop μ-loop
+add-j c = omega (arith, c .before .before .before .before .before .before .before .before .before .before .before .pre .request .riders)
+
+loop-less : tie.Need-loop-less Inv-loop μ-loop
+loop-less c = omega arith
+
+loop-again : tie.Need-loop-again Inv-loop μ-loop
+loop-again c = rw (c .before .before .before .before .before .before .before .before .two .ensures .value) (walked-more (c .before .before .before .before .before .before .before .before .before .before .before .pre) (c .before .before .before .before .before .before .loop .inv) (c .before .before .before .before .if1 .taken) (rw (c .before .before .before .before .before .before .before .before .two .ensures .value) at (c .before .before .walk-from .ensures)))
+
+same-length : tie.Need-same-length Inv-loop μ-loop
+same-length c = c .before .before .loop .inv .kept .size
+
+returns : tie.Need-returns Inv-loop μ-loop
+returns c = walked-all (c .before .before .before .before .before .before .before .pre) (c .before .before .loop .inv) (c .if1 .left)
+
+pub fill-distances-spec : {M : Type 1} → statement M
+fill-distances-spec =
+    tie.close
+    (tie.spec
+    Inv-loop
+    μ-loop
+    two-requires
+    loop-holds
+    mul-a
+    add-b
+    mul-walk-from
+    array-read-walk-from
+    mul-walk-from-2
+    sub-walk-from
+    part-walk-from-start
+    part-walk-from-end
+    walk-from-requires
+    add-j
+    loop-less
+    loop-again
+    same-length
+    returns)

@@ -1,0 +1,60 @@
+use Prim.Native.Nat.{_*_}
+use native.Mathlib.Omega.{arith}
+use lib.ListN.{length}
+use borrow.Author.Needs.{needs}
+use Rattle.table.proofs.TableLaws.{row-there, row-lent, row-filled}
+use Rattle.table.proofs.RowLaws.{Lies}
+use Rattle.table.proofs.rows.fill_row.Statement.{statement}
+use Rattle.table.proofs.rows.fill_row.Tie as tie
+
+start-row-requires : tie.Need-start-row-requires
+start-row-requires c κs = search needs
+
+two-requires : tie.Need-two-requires
+two-requires c κs = search needs
+
+there : (c : tie.After-two) → Lies (c .before .before .before .before .before .before .before .before .args .riders * c .two .result) (c .two .result) (length (c .before .before .before .start-row .last .1 .1 .1 .1 .0))
+there c = rw (c .two .ensures .value) (row-there (c .before .before .before .before .before .before .before .before .pre) (c .before .before .before .start-row .ensures))
+
+mul-a : tie.Need-mul-a
+mul-a c = omega (arith, there c)
+
+add-b : tie.Need-add-b
+add-b c = omega (arith, there c)
+
+mul-spread-drives : tie.Need-mul-spread-drives
+mul-spread-drives c = omega (arith, there c)
+
+sub-spread-drives : tie.Need-sub-spread-drives
+sub-spread-drives c = search needs
+
+part-spread-drives-start : tie.Need-part-spread-drives-start
+part-spread-drives-start c = search needs
+
+part-spread-drives-end : tie.Need-part-spread-drives-end
+part-spread-drives-end c = there c .within
+
+spread-drives-requires : tie.Need-spread-drives-requires
+spread-drives-requires c κs = rw (c .before .two .ensures .value) (row-lent (c .before .before .before .before .before .before .before .before .before .pre) (c .before .before .before .before .start-row .ensures))
+
+same-length : tie.Need-same-length
+same-length c = search needs
+
+returns : tie.Need-returns
+returns c = rw (c .before .before .before .before .two .ensures .value) (row-filled (c .before .before .before .before .before .before .before .before .before .before .before .before .pre) (c .before .before .before .before .before .before .before .start-row .ensures) (rw (c .before .before .before .before .two .ensures .value) at (c .before .before .spread-drives .ensures)))
+
+pub fill-row-spec : {M : Type 1} → statement M
+fill-row-spec =
+    tie.close
+    (tie.spec
+    start-row-requires
+    two-requires
+    mul-a
+    add-b
+    mul-spread-drives
+    sub-spread-drives
+    part-spread-drives-start
+    part-spread-drives-end
+    spread-drives-requires
+    same-length
+    returns)

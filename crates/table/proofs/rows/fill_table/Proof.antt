@@ -1,0 +1,58 @@
+use Prim.Native.Nat.{_-_, _^_}
+use mathlib.Core.Path.{_≡_}
+use native.Mathlib.Omega.{arith}
+use Rattle.table.specs.Filling.{Filled}
+use Rattle.table.proofs.TableLaws.{filled-none, next-room, filled-more, filled-all}
+use Rattle.table.proofs.rows.fill_table.Statement.{statement}
+use Rattle.table.proofs.rows.fill_table.Tie as tie
+
+abbrev Inv-loop : tie.InvT-loop
+Inv-loop network q distances table₀ rows riders₀ table riders = Filled network q riders table₀ table
+
+abbrev μ-loop : tie.MeasureT-loop
+μ-loop network q distances table₀ rows riders₀ table riders = rows - riders
+
+cast-rider-bit : tie.Need-cast-rider-bit Inv-loop μ-loop
+cast-rider-bit c = omega (arith, c .before .before .before .before .pre .0 .ready .request .riders)
+
+rider-bit-requires : tie.Need-rider-bit-requires Inv-loop μ-loop
+rider-bit-requires c κs = omega (arith, c .before .before .before .before .pre .0 .ready .request .riders)
+
+loop-holds : tie.Need-loop-holds Inv-loop μ-loop
+loop-holds c = filled-none (c .before .before .before .before .before .pre .0)
+
+fill-row-requires : tie.Need-fill-row-requires Inv-loop μ-loop
+fill-row-requires c κs = next-room (c .before .before .before .before .before .before .before .before .pre .0) (c .before .before .loop .inv) (c .before .before .before .before .before .before .before .before .pre .1) (rw (c .before .before .before .rider-bit .ensures) at (c .before .loop-test .taken))
+
+add-riders : tie.Need-add-riders Inv-loop μ-loop
+add-riders c = omega arith
+
+loop-less : tie.Need-loop-less Inv-loop μ-loop
+loop-less c = omega arith
+
+loop-again : tie.Need-loop-again Inv-loop μ-loop
+loop-again c = filled-more (c .before .before .before .before .before .before .before .before .before .before .before .pre .0) (c .before .before .before .before .before .loop .inv) (c .before .before .fill-row .ensures)
+
+same-length : tie.Need-same-length Inv-loop μ-loop
+same-length c = c .before .loop .inv .kept .size
+
+returns : tie.Need-returns Inv-loop μ-loop
+returns c =
+    let all : c .before .loop .riders ≡ 2 ^ c .before .before .before .before .before .before .before .args .q .count = omega (arith, c .before .before .rider-bit .ensures) in
+    filled-all (c .before .before .before .before .before .before .before .pre .0) (rw all at (c .before .loop .inv))
+
+pub fill-table-spec : {M : Type 1} → statement M
+fill-table-spec =
+    tie.close
+    (tie.spec
+    Inv-loop
+    μ-loop
+    cast-rider-bit
+    rider-bit-requires
+    loop-holds
+    fill-row-requires
+    add-riders
+    loop-less
+    loop-again
+    same-length
+    returns)
