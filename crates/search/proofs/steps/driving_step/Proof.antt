@@ -1,0 +1,45 @@
+use native.Mathlib.Omega.{arith}
+use native.Mathlib.Nat.{mul-le-mul, le-of-lt}
+use mathlib.Core.Path.{_∙_, sym}
+use Rattle.search.proofs.TightLaws.{not-driven, closed-drive, open-drive}
+use borrow.Author.Needs.{needs}
+use Rattle.search.proofs.steps.driving_step.Statement.{statement}
+use Rattle.search.proofs.steps.driving_step.Tie as tie
+
+from-requires : tie.Need-from-requires
+from-requires c κs = search needs
+
+drive-requires : tie.Need-drive-requires
+drive-requires c κs = search needs
+
+returns : tie.Need-returns
+returns c = not-driven _ _ _ _ (λ e. c .if1 .taken (c .before .before .from .ensures .value ∙ e))
+
+returns-2 : tie.Need-returns-2
+returns-2 c = closed-drive _ _ _ _ (sym (c .before .before .before .from .ensures .value) ∙ c .before .if1 .left) (rw (c .before .before .drive .ensures .value) at (c .if2 .taken))
+
+mul-result : tie.Need-mul-result
+mul-result c = omega (arith, mul-le-mul (c .before .before .before .before .before .pre .2) (le-of-lt (c .before .before .drive .ensures .below)))
+
+mul-result-2 : tie.Need-mul-result-2
+mul-result-2 c = omega (arith, mul-le-mul (c .before .before .before .before .before .pre .2) (le-of-lt (c .before .before .drive .ensures .below)))
+
+add-result : tie.Need-add-result
+add-result c = omega (arith, mul-le-mul (c .before .before .before .before .before .pre .2) (le-of-lt (c .before .before .drive .ensures .below)))
+
+returns-3 : tie.Need-returns-3
+returns-3 c =
+    rw (c .before .before .drive .ensures .value) (open-drive _ _ _ _ (sym (c .before .before .before .from .ensures .value) ∙ c .before .if1 .left) (rw (c .before .before .drive .ensures .value) at (c .if2 .left)))
+
+pub driving-step-spec : {M : Type 1} → statement M
+driving-step-spec =
+    tie.close
+    (tie.spec
+    from-requires
+    drive-requires
+    returns
+    returns-2
+    mul-result
+    mul-result-2
+    add-result
+    returns-3)

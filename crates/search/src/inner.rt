@@ -1,0 +1,39 @@
+// The search in rooms that are known to be large enough, for records that were read.
+use crate::steps::read_plan;
+use crate::steps::value;
+use rules::Planned;
+use rules::Refusal;
+use rules::Request;
+use rules::Verdict;
+use table::inner::fill_distances;
+use table::inner::fill_table;
+use table::inner::rider_bit;
+ghost use Rattle.rules.specs.Answers.{Searching};
+ghost use Rattle.search.specs.Rooms.{lent, Roomy};
+
+// Fills the distances and the table, and writes the right plan's steps: its cost and number of steps, or refusal 24.
+pub fn plan(
+    network: &[u8],
+    q: Request,
+    distances: &mut [u32],
+    table: &mut [u64],
+    steps: &mut [u16],
+) -> Planned
+    requires { ⌜ Roomy (now network) q (now distances) (now table) (now steps) ⌝ }
+    ensures { λ r. ⌜ Searching Verdict.Accepted (now (network .entry)) q (lent (now (distances .entry)) (now (table .entry)) (now (steps .entry))) (lent (now (distances .exit)) (now (table .exit)) (now (steps .exit))) r ⌝ }
+{
+    fill_distances(network, q, distances);
+    fill_table(network, q, distances, table);
+    let best = value(network, table, rider_bit(q.count as u32) - 1, q.source);
+    if best == 18446744073709551615 {
+        return Planned::Refused(Refusal {
+            number: 24,
+            place: 0,
+        });
+    }
+    read_plan(network, q, distances, table, steps);
+    Planned::Plan {
+        cost: best / 4096,
+        steps: (best % 4096) as usize,
+    }
+}
