@@ -1,0 +1,7 @@
+pub mod TestLaws
+pub mod DistanceLaws
+pub mod MoveLaws
+pub mod TableLaws
+pub mod CaseLaws
+pub mod Town
+pub mod SearchLaws
