@@ -1,5 +1,5 @@
 -- A case: an input, what comes of it, and its certificate.
-use Prim.Native.Nat.{ℕ, _+_, _*_, _/_, _^_, _<_, _≤_}
+use Prim.Native.Nat.{ℕ, zero, suc, _+_, _*_, _/_, _^_, _<_, _≤_}
 use mathlib.Core.Path.{_≡_}
 use mathlib.Core.Bool.{Bool, true, false, _&&_}
 use mathlib.Core.List.{List, [], _∷_, _++_}
@@ -81,7 +81,8 @@ caseTest c =
 unfoldable pub certified : Case → Bool
 certified c = accepts (requestVerdict (c .network) (c .request)) && passes (caseTest c)
 
--- a claim of every case of a table
-unfoldable pub Every : (Case → Type 0) → List Case → Type 0
-Every P [] = Unit
-Every P (c ∷ cs) = P c × Every P cs
+-- a claim of the case at place i of a table, if there is one
+abbrev pub Row : (Case → Type 0) → List Case → ℕ → Type 0
+Row P [] i = Unit
+Row P (c ∷ cs) zero = P c
+Row P (c ∷ cs) (suc i) = Row P cs i

@@ -3,10 +3,12 @@ use Prim.Native.Nat.{ℕ, _+_, _-_, _*_, _/_, _%_, _^_}
 use mathlib.Core.Bool.{cond}
 use mathlib.Core.List.{List, [], _∷_}
 use lib.Dec.{ltb}
+use lib.ListN.{length, getD}
 use Rattle.rules.specs.Network.{nodeCount, linkCount, from, to, drive, walk, closed}
-use Rattle.rules.specs.Request.{riderNodeOf, riderWeightOf}
+use Rattle.rules.specs.Request.{riderWeightOf}
 use Rattle.rules.specs.Walks.{noDistance}
-use Rattle.rules.specs.Plans.{without, allRiders}
+use Rattle.rules.specs.Routes.{nodeAt, sum}
+use Rattle.rules.specs.Plans.{without}
 use Rattle.rules.specs.Rooms.{noFinish}
 use Rattle.rules.specs.declared.Request.{Request}
 use Rattle.finish.specs.Packed.{packedStep}
@@ -31,6 +33,10 @@ module _ (network : List ℕ) (start : ℕ) (d : ℕ → ℕ) where
   abbrev pub distancesTest : Test
   distancesTest = both (same (d start) 0) (both (each (linkCount network) noShorter) (each (nodeCount network) walkedTo))
 
+-- link k can be driven from v
+abbrev pub drivable : List ℕ → ℕ → ℕ → Test
+drivable network v k = both (below k (linkCount network)) (both (same (from network k) v) (below (drive network k) closed))
+
 -- ---- one step with R still to be met and the bus at v: whether it is allowed, where it leads, and what it costs
 pub record Move : Type 0 where
   pub allowed : Test
@@ -51,7 +57,7 @@ module _ (network : List ℕ) (q : Request) (D : ℕ → ℕ → ℕ) where
   abbrev pub driving : ℕ → ℕ → ℕ → Move
   driving R v k =
       record {
-        allowed = both (below k (linkCount network)) (both (same (from network k) v) (below (drive network k) closed));
+        allowed = drivable network v k;
         set = R;
         node = to network k;
         cost = q .weight * drive network k;
@@ -97,3 +103,29 @@ module _ (network : List ℕ) (q : Request) (D : ℕ → ℕ → ℕ) where
     readsTest R v (step ∷ steps) =
         both (both (tight R v step) (each step (higher R v)))
         (readsTest (move R v step .set) (move R v step .node) steps)
+
+-- ---- the price of a route
+-- the route leads from v to the target
+unfoldable pub routeTest : List ℕ → ℕ → ℕ → List ℕ → Test
+routeTest network target v [] = same v target
+routeTest network target v (k ∷ route) = both (drivable network v k) (routeTest network target (to network k) route)
+
+-- the sum of its drive costs
+unfoldable pub driven : List ℕ → List ℕ → ℕ
+driven network [] = 0
+driven network (k ∷ route) = drive network k + driven network route
+
+module _ (network : List ℕ) (q : Request) (D : ℕ → ℕ → ℕ) (route : List ℕ) where
+  abbrev pub walkTo : ℕ → ℕ → ℕ
+  walkTo j position = D j (nodeAt network (q .source) route position)
+
+  -- no position is nearer to the rider, and no earlier one as near
+  abbrev pub meetingTest : ℕ → ℕ → Test
+  meetingTest j position =
+      both (both (atMost position (length route)) (below (walkTo j position) noDistance))
+      (both (each (length route + 1) (λ other. atMost (walkTo j position) (walkTo j other))) (each position (λ other. below (walkTo j position) (walkTo j other))))
+
+  abbrev pub priceTest : List ℕ → ℕ → Test
+  priceTest meetings price =
+      both (routeTest network (q .target) (q .source) route)
+      (both (each (q .count) (λ j. meetingTest j (getD meetings j 0))) (same price (q .weight * driven network route + sum (q .count) (λ j. riderWeightOf q j * walkTo j (getD meetings j 0)))))

@@ -4,3 +4,4 @@ pub mod Certificate
 pub mod Cases
 pub mod TownRows
 pub mod Searches
+pub mod OwnRows
