@@ -1,26 +1,25 @@
 -- The claim of every case whose certificate passes its test.
-use Prim.Native.Nat.{ℕ, zero, suc, _+_, _-_, _/_, _^_, _<_}
+use Prim.Native.Nat.{ℕ, zero, suc, _^_, _<_}
 use mathlib.Core.Path.{_≡_, refl}
 use mathlib.Core.Logic.{inl, inr}
-use mathlib.Core.Bool.{true, _&&_, false≢true}
+use mathlib.Core.Bool.{true, false≢true}
 use mathlib.Core.List.{List, [], _∷_, map}
 use native.Mathlib.Omega.{arith}
 use lib.Pow.{pow-pos}
 use Rattle.rules.specs.Network.{nodeCount, SoundNetwork}
-use Rattle.rules.specs.Request.{SoundValue, requestValue, requestVerdict, riderNodeOf}
+use Rattle.rules.specs.Request.{SoundValue, requestVerdict}
 use Rattle.rules.specs.Routes.{Price}
 use Rattle.rules.specs.Plans.{allRiders}
-use Rattle.rules.specs.Rooms.{noFinish, HoldsFinish}
+use Rattle.rules.specs.Rooms.{HoldsFinish}
 use Rattle.rules.specs.declared.Request.{Request}
 use Rattle.rules.specs.declared.Verdict.{Verdict}
 use Rattle.rules.specs.declared.Verdict.the-variants.{Accepted, Refused}
 use Rattle.rules.proofs.SoundRequestLaws.{records-sound, value-sound}
 use Rattle.finish.proofs.Bounds.{least-holds, unpacks}
-use Rattle.right.specs.Reading.{planValue}
 use Rattle.right.proofs.Reading.{reading-start}
-use Rattle.cases.specs.Tests.{Says, passes}
-use Rattle.cases.specs.Certificate.{tableTest, priceTest}
-use Rattle.cases.specs.Cases.{Outcome, plan, none, Case, riders, distanceAt, valueAt, Right, Holds, accepts, outcomeTest, caseTest, certified, Row}
+use Rattle.cases.proofs.Tests.{Says, passes}
+use Rattle.cases.proofs.Certificate.{tableTest, priceTest, accepts, outcomeTest, caseTest, certified, pricedAt}
+use Rattle.cases.specs.Cases.{Outcome, plan, none, Case, riders, distanceAt, Right, Holds, Row}
 use Rattle.cases.proofs.TestLaws.{and-both, decides}
 use Rattle.cases.proofs.DistanceLaws.{distances-hold}
 use Rattle.cases.proofs.MoveLaws.{Walking}
@@ -70,7 +69,8 @@ every-holds (c ∷ cs) e zero = holds c (cc)
 every-holds (c ∷ cs) e (suc i) = every-holds cs (cc) i
 
 -- A route whose price passes its test, by the distances of a case.
-pub case-priced : {c : Case} → Holds c → (route meetings : List ℕ) {price : ℕ} → passes (priceTest (c .network) (riders c) (distanceAt c) route meetings price) ≡ true → Price (c .network) (riders c) route meetings price
+pub case-priced : {c : Case} → Holds c → (route meetings : List ℕ) {price : ℕ} → pricedAt c route meetings price ≡ true → Price (c .network) (riders c) route meetings price
+unfolding pricedAt
 case-priced {c} so route meetings e =
     let (sound, request) = records-sound (c .network) (c .request) (so .accepted) in
     priced sound (value-sound (nodeCount (c .network)) (c .request) request) (so .distances) route meetings (decides (priceTest (c .network) (riders c) (distanceAt c) route meetings _) .0 e)

@@ -1,17 +1,17 @@
 -- Distances that pass their test are the walking distances.
-use Prim.Native.Nat.{ℕ, zero, suc, _+_, _<_}
-use mathlib.Core.Path.{_≡_, refl}
-use mathlib.Core.Logic.{_⊎_, inl, inr}
+use Prim.Native.Nat.{ℕ, zero, suc, _<_}
+use mathlib.Core.Path.{refl}
+use mathlib.Core.Logic.{inl, inr}
 use mathlib.Core.List.{List}
 use native.Mathlib.Omega.{arith}
-use Rattle.rules.specs.Network.{nodeCount, linkCount, from, to, walk, SoundNetwork}
+use Rattle.rules.specs.Network.{nodeCount, from, walk, SoundNetwork}
 use Rattle.rules.specs.Walks.{HoldsDistance, noDistance}
-use Rattle.least.specs.Trips.{Trip, done, step, At}
-use Rattle.least.specs.Walking.{EndsBelow, WalkBack, WalkTrip}
+use Rattle.least.specs.Trips.{done, step}
+use Rattle.least.specs.Walking.{EndsBelow, WalkTrip}
 use Rattle.least.proofs.Trips.{fixpoint}
 use Rattle.least.proofs.Walking.{inside, distance}
-use Rattle.cases.specs.Tests.{Says, some}
-use Rattle.cases.specs.Certificate.{distancesTest, endsWith}
+use Rattle.cases.proofs.Tests.{Says}
+use Rattle.cases.proofs.Certificate.{distancesTest}
 
 module _ {network : List ℕ} (sound : SoundNetwork network) {start : ℕ} {d : ℕ → ℕ} (tested : Says (distancesTest network start d)) where
   ends-below : EndsBelow (nodeCount network) network

@@ -1,22 +1,22 @@
 -- The moves of a certificate are the steps of a finish.
-use Prim.Native.Nat.{ℕ, _+_, _-_, _^_, _<_, _≤_}
-use mathlib.Core.Path.{_≡_, refl, ap}
+use Prim.Native.Nat.{ℕ, _-_, _^_, _<_}
+use mathlib.Core.Path.{_≡_, refl}
 use mathlib.Core.Logic.{inl, inr}
 use mathlib.Core.List.{List}
 use native.Mathlib.Decide.{decLt}
 use native.Mathlib.Omega.{arith}
 use borrow.Author.Tests.{lt-ltb, le-ltb}
 use Rattle.rules.specs.Network.{nodeCount, SoundNetwork}
-use Rattle.rules.specs.Request.{riderNodeOf, riderWeightOf, SoundValue}
-use Rattle.rules.specs.Walks.{HoldsDistance, noDistance}
+use Rattle.rules.specs.Request.{riderNodeOf, SoundValue}
+use Rattle.rules.specs.Walks.{HoldsDistance}
 use Rattle.rules.specs.Plans.{Has}
 use Rattle.rules.specs.declared.Request.{Request}
 use Rattle.rules.proofs.WalkLaws.{holds-distance-unique}
 use Rattle.finish.proofs.Sets.{has-below}
 use Rattle.finish.proofs.Bounds.{walking-bounded}
 use Rattle.right.specs.Reading.{Step, meets, drives}
-use Rattle.cases.specs.Tests.{Says}
-use Rattle.cases.specs.Certificate.{Move, move, meeting, driving}
+use Rattle.cases.proofs.Tests.{Says}
+use Rattle.cases.proofs.Certificate.{Move, move, meeting, driving}
 
 -- every place of D holds a rider's walking distance
 abbrev pub Walking : List ℕ → Request → (ℕ → ℕ → ℕ) → Type 0

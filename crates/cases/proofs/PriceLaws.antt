@@ -1,9 +1,9 @@
 -- A route that passes its test has that price and those meeting positions.
-use Prim.Native.Nat.{ℕ, zero, suc, _+_, _*_, _<_, _≤_}
+use Prim.Native.Nat.{ℕ, zero, suc, _<_}
 use mathlib.Core.Path.{_≡_, refl}
 use mathlib.Core.Logic.{inl, inr}
 use mathlib.Core.List.{List, [], _∷_}
-use lib.ListN.{length, getD}
+use lib.ListN.{getD}
 use native.Mathlib.Omega.{arith}
 use Rattle.rules.specs.Network.{nodeCount, to, drive, SoundNetwork}
 use Rattle.rules.specs.Request.{riderNodeOf, SoundValue}
@@ -11,8 +11,8 @@ use Rattle.rules.specs.Walks.{Way, arrived, along, HoldsDistance}
 use Rattle.rules.specs.Routes.{Drivable, Route, RiderWalks, nodeAt, Meeting, Price}
 use Rattle.rules.specs.declared.Request.{Request}
 use Rattle.rules.proofs.WalkLaws.{holds-distance-unique}
-use Rattle.cases.specs.Tests.{Says}
-use Rattle.cases.specs.Certificate.{routeTest, driven, walkTo, meetingTest, priceTest}
+use Rattle.cases.proofs.Tests.{Says}
+use Rattle.cases.proofs.Certificate.{routeTest, driven, walkTo, meetingTest, priceTest}
 use Rattle.cases.proofs.MoveLaws.{Walking}
 
 route-way : {network : List ℕ} {target v : ℕ} (route : List ℕ) → Says (routeTest network target v route) → Way (Drivable network) target v route (driven network route)

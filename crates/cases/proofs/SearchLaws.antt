@@ -1,10 +1,10 @@
 -- The search of a case that holds: what it must answer and leave.
-use Prim.Native.Nat.{ℕ, suc, _+_, _-_, _*_, _/_, _%_, _^_, _<_, _≤_}
+use Prim.Native.Nat.{ℕ, suc, _+_, _*_, _^_, _<_, _≤_}
 use mathlib.Core.Path.{_≡_, refl, sym, ap, _∙_}
 use mathlib.Core.Logic.{inl}
-use mathlib.Core.Bool.{Bool, true, false, false≢true}
-use mathlib.Core.List.{List, [], _∷_, _++_}
-use lib.ListN.{length, getD, take, drop, length-append, length-drop, length-replicate, List·getD-append}
+use mathlib.Core.Bool.{true, false, false≢true}
+use mathlib.Core.List.{List, [], _∷_}
+use lib.ListN.{length, take, drop, length-append, length-drop, length-replicate, List·getD-append}
 use lib.Seq.{take-append-seam, drop-append-seam}
 use lib.Pow.{pow-pos}
 use native.Mathlib.Nat.{suc-mul, mul-le-mul-right, le-refl}
@@ -14,7 +14,7 @@ use Rattle.rules.specs.Checks.{firstOf}
 use Rattle.rules.specs.Network.{nodeCount}
 use Rattle.rules.specs.Request.{requestValue, requestVerdict, recordChecks}
 use Rattle.rules.specs.Plans.{allRiders}
-use Rattle.rules.specs.Rooms.{Kept, Written, Distances, Table}
+use Rattle.rules.specs.Rooms.{Kept, Distances, Table}
 use Rattle.rules.specs.Answers.{Lent, searchChecks, Searched, refused, hopeless, planned}
 use Rattle.rules.specs.declared.Planned.{Planned}
 use Rattle.rules.specs.declared.Planned.the-variants.{Plan as Found}
@@ -25,7 +25,7 @@ use Rattle.rules.proofs.PlanLaws.{holds-finish-unique}
 use Rattle.rules.proofs.AnswerLaws.{searched-unique}
 use Rattle.finish.proofs.Bounds.{unpacks}
 use Rattle.cases.specs.Cases.{Outcome, plan, none, Case, riders, Right, Holds}
-use Rattle.cases.specs.Searches.{answerOf, stepsOf, Roomy, zeros, over, filled, SearchedCase, Fails, sameSteps, sameOutcome}
+use Rattle.cases.specs.Searches.{answerOf, stepsOf, Roomy, zeros, over, filled, SearchedCase, Fails, sameSteps, sameOutcome, Told}
 
 -- place i of row j is below rows times places
 place-below : {j rows i places : ℕ} → j < rows → i < places → j * places + i < rows * places
@@ -104,14 +104,7 @@ fails {c} wrong holds differ before after roomy s written =
     let same = outcome-told wrong (c .outcome) (before .steps) answer (sym written ∙ ap (λ (l : Lent). l .steps) rooms) in
     false≢true (sym differ ∙ ap (λ (o : Outcome). sameOutcome o (c .outcome)) same ∙ same-outcome (c .outcome))
 
--- The table tells the cost of a plan, and the count of the steps that are written: its quotient and its remainder by 4,096.
-pub record Told (network request : List ℕ) (before after : Lent) (cost count : ℕ) : Type 0 where
-  pub steps : List ℕ
-  pub written : Written steps (before .steps) (after .steps)
-  pub counts : count ≡ length steps
-  pub quotient : getD (after .table) (allRiders (requestValue request) * nodeCount network + requestValue request .source) 0 / 4096 ≡ cost
-  pub remainder : getD (after .table) (allRiders (requestValue request) * nodeCount network + requestValue request .source) 0 % 4096 ≡ count
-
+-- A plan's cost and step count are told by the table, whatever the input.
 pub count-told : (network request : List ℕ) {before after : Lent} {answer : Planned} {cost count : ℕ} → answer ≡ Found cost count → Searched network request before after answer → Told network request before after cost count
 unfolding requestVerdict
 count-told network request e (refused r v a same) = let z : _≡_ {A = ℕ} 0 1 = cc in absurd (omega arith)

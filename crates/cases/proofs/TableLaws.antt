@@ -1,7 +1,7 @@
 -- A table that passes its test has the least packed values, and the steps that pass theirs are the right plan.
 use Prim.Native.Nat.{ℕ, zero, suc, _+_, _*_, _/_, _^_, _<_, _≤_}
-use mathlib.Core.Path.{_≡_, refl, ap}
-use mathlib.Core.Logic.{_⊎_, inl, inr}
+use mathlib.Core.Path.{refl, ap}
+use mathlib.Core.Logic.{inl, inr}
 use mathlib.Core.List.{List, [], _∷_, _++_, append-nil, append-assoc}
 use lib.ListN.{length}
 use native.Mathlib.Decide.{decLt}
@@ -12,13 +12,12 @@ use Rattle.rules.specs.Plans.{Finish, arrive, meet, drive, RightPlan}
 use Rattle.rules.specs.Rooms.{noFinish}
 use Rattle.rules.specs.declared.Request.{Request}
 use Rattle.finish.specs.Packed.{Packed, packedStep}
-use Rattle.finish.proofs.Packing.{packed}
 use Rattle.finish.proofs.Sets.{has-below}
 use Rattle.right.specs.Reading.{Tabled, Step, meets, drives, Next, planValue, Reading}
 use Rattle.right.proofs.Reading.{reading-next, reading-done}
-use Rattle.cases.specs.Tests.{Says}
-use Rattle.cases.specs.Certificate.{move, onward, tableTest, readsTest}
-use Rattle.cases.proofs.MoveLaws.{Walking, Goes, step-move, move-step}
+use Rattle.cases.proofs.Tests.{Says}
+use Rattle.cases.proofs.Certificate.{move, onward, tableTest, readsTest}
+use Rattle.cases.proofs.MoveLaws.{Walking, step-move, move-step}
 
 -- One step more in front of a finish.
 go-on : {network : List ℕ} {q : Request} {R v step S x c rest : ℕ} {steps : List ℕ} → Step network q R v step S x c → Finish network q S x steps rest → Finish network q R v (step ∷ steps) (c + rest)

@@ -1,24 +1,25 @@
 -- Planners that fail the search's promise, each with the input where it fails.
-use Prim.Native.Nat.{ℕ, _<_, _≤_}
+use Prim.Native.Nat.{ℕ}
 use mathlib.Core.Path.{_≡_, refl, ap, sym, _∙_}
 use mathlib.Core.Logic.{_≢_}
 use mathlib.Core.List.{List, [], _∷_}
-use lib.ListN.{length, getD}
+use lib.ListN.{getD}
 use native.Mathlib.Omega.{arith}
 use Rattle.rules.specs.Numbers.{number}
 use Rattle.rules.specs.Request.{requestValue}
-use Rattle.rules.specs.Routes.{nodeAt}
+use Rattle.rules.specs.Routes.{nodeAt, Price}
 use Rattle.rules.specs.Plans.{RightPlan}
 use Rattle.rules.specs.Answers.{Lent}
 use Rattle.rules.specs.declared.Refusal.{Refusal}
-use Rattle.rules.specs.declared.Planned.{Planned}
 use Rattle.rules.specs.declared.Planned.the-variants.{Plan as Found, Refused as NotPlanned}
 use Rattle.rules.proofs.PlanLaws.{right-plan-unique}
 use Rattle.right.specs.Steps.{drivesOf}
-use Rattle.cases.specs.Cases.{plan, none, Case, riders, Holds}
-use Rattle.cases.specs.Searches.{Roomy, zeros, SearchedCase, Fails, sameSteps, sameOutcome, Planner, Keeps}
+use Rattle.cases.specs.Cases.{plan, none, riders}
+use Rattle.cases.specs.Searches.{Roomy, zeros, SearchedCase, Fails, sameSteps, sameOutcome, Planner, Keeps, NoNodeTwice}
 use Rattle.cases.specs.TownRows.{rowA, rowB, rowC, rowF, rowJ}
-use Rattle.cases.specs.OwnRows.{beyondTarget, twoLinks, nearTwice, oneForTwo, offTheRoad, wideCosts, closedWalk}
+use Rattle.cases.specs.OwnRows.{beyondTarget, twoLinks, nearTwice, oneForTwo, offTheRoad, wideCosts, closedWalk, wallOpened}
+use Rattle.cases.proofs.Certificate.{pricedAt}
+use Rattle.cases.proofs.CaseLaws.{case-priced}
 use Rattle.cases.proofs.SearchLaws.{zeros-roomy, searched-case, fails}
 use Rattle.cases.proofs.Tables.{town-holds, own-holds}
 
@@ -64,6 +65,11 @@ pub weighs-rider-0 : (cost : ℕ) → Fails rowJ (plan cost (8 ∷ 0 ∷ 1 ∷ 9
 unfolding sameSteps sameOutcome
 weighs-rider-0 cost = fails (plan cost (8 ∷ 0 ∷ 1 ∷ 9 ∷ [])) (town-holds 9) refl
 
+-- That plan costs 12, where the right one costs 11.
+pub weighs-rider-0-price : Price (rowJ .network) (riders rowJ) (0 ∷ 1 ∷ []) (1 ∷ 1 ∷ []) 12
+unfolding pricedAt
+weighs-rider-0-price = case-priced (town-holds 9) (0 ∷ 1 ∷ []) (1 ∷ 1 ∷ []) refl
+
 -- One whose step count is invented, at case A. Of every input `count-told` says what it must be.
 pub invents-the-count : (cost count : ℕ) → count ≢ 3 → (before after : Lent) → Roomy rowA before → SearchedCase rowA before after (Found cost count) → ⊥
 invents-the-count cost count other before after roomy s =
@@ -71,29 +77,34 @@ invents-the-count cost count other before after roomy s =
     other (cc)
 
 -- ---- wrong plans seen on desks
--- Driving a walkers' link at its walking cost, through the wall: links 6 and 4 are closed to the bus.
-pub drives-through-the-wall : Fails rowB (plan 10 (8 ∷ 14 ∷ 0 ∷ 12 ∷ 9 ∷ []))
+-- Driving a walkers' link at its walking cost, through the wall. It answers as is right where the wall is open, by the last of our own cases.
+pub drives-through-the-wall : Fails rowB (wallOpened .outcome)
 unfolding sameSteps sameOutcome
-drives-through-the-wall = fails (plan 10 (8 ∷ 14 ∷ 0 ∷ 12 ∷ 9 ∷ [])) (town-holds 1) refl
+drives-through-the-wall = fails (wallOpened .outcome) (town-holds 1) refl
 
--- Passing every rider's node.
+-- Passing every rider's node, which costs 11 in case C.
 pub passes-every-rider : Fails rowC (plan 11 (10 ∷ 15 ∷ 0 ∷ 13 ∷ 11 ∷ []))
 unfolding sameSteps sameOutcome
 passes-every-rider = fails (plan 11 (10 ∷ 15 ∷ 0 ∷ 13 ∷ 11 ∷ [])) (town-holds 2) refl
 
--- Stopping when the target is first reached: the rider is not met at all, or on the way.
-pub stops-at-the-target : (cost : ℕ) → Fails rowB (plan cost (8 ∷ 9 ∷ []))
+pub passes-every-rider-price : Price (rowC .network) (riders rowC) (2 ∷ 7 ∷ 5 ∷ 3 ∷ []) (2 ∷ []) 11
+unfolding pricedAt
+passes-every-rider-price = case-priced (town-holds 2) (2 ∷ 7 ∷ 5 ∷ 3 ∷ []) (2 ∷ []) refl
+
+-- Stopping when the target is first reached: in case B with the rider left behind, or met on the way for 26.
+pub stops-without-the-rider : (cost : ℕ) → Fails rowB (plan cost (8 ∷ 9 ∷ []))
 unfolding sameSteps sameOutcome
-stops-at-the-target cost = fails (plan cost (8 ∷ 9 ∷ [])) (town-holds 1) refl
+stops-without-the-rider cost = fails (plan cost (8 ∷ 9 ∷ [])) (town-holds 1) refl
 
 pub stops-with-the-rider : Fails rowB (plan 26 (8 ∷ 0 ∷ 9 ∷ []))
 unfolding sameSteps sameOutcome
 stops-with-the-rider = fails (plan 26 (8 ∷ 0 ∷ 9 ∷ [])) (town-holds 1) refl
 
--- Forbidding repeated nodes: no right plan of cases B and J goes without.
-abbrev pub NoNodeTwice : Case → List ℕ → Type 0
-NoNodeTwice c route = (i j : ℕ) → i < j → j ≤ length route → nodeAt (c .network) (riders c .source) route i ≢ nodeAt (c .network) (riders c .source) route j
+pub stops-with-the-rider-price : Price (rowB .network) (riders rowB) (0 ∷ 1 ∷ []) (1 ∷ []) 26
+unfolding pricedAt
+stops-with-the-rider-price = case-priced (town-holds 1) (0 ∷ 1 ∷ []) (1 ∷ []) refl
 
+-- Forbidding repeated nodes: no right plan of cases B and J goes without.
 pub forbids-repeated-nodes-B : {steps : List ℕ} {cost : ℕ} → RightPlan (rowB .network) (riders rowB) steps cost → NoNodeTwice rowB (drivesOf steps) → ⊥
 unfolding number nodeAt drivesOf
 forbids-repeated-nodes-B right once =

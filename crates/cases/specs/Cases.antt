@@ -1,27 +1,22 @@
--- A case: an input, what comes of it, and its certificate.
-use Prim.Native.Nat.{ℕ, zero, suc, _+_, _*_, _/_, _^_, _<_, _≤_}
+-- Cases: an input, what comes of it, and what the search leaves behind.
+use Prim.Native.Nat.{ℕ, zero, suc, _+_, _*_, _^_, _<_}
 use mathlib.Core.Path.{_≡_}
-use mathlib.Core.Bool.{Bool, true, false, _&&_}
-use mathlib.Core.List.{List, [], _∷_, _++_}
+use mathlib.Core.List.{List, [], _∷_}
 use lib.ListN.{length, getD}
 use Rattle.rules.specs.Network.{nodeCount}
 use Rattle.rules.specs.Request.{riderNodeOf, requestValue, requestVerdict}
 use Rattle.rules.specs.Walks.{HoldsDistance}
-use Rattle.rules.specs.Plans.{allRiders, RightPlan, NoPlan}
-use Rattle.rules.specs.Rooms.{noFinish, HoldsFinish, distancePlaces, tablePlaces}
+use Rattle.rules.specs.Plans.{RightPlan, NoPlan}
+use Rattle.rules.specs.Rooms.{HoldsFinish, distancePlaces, tablePlaces}
 use Rattle.rules.specs.declared.Request.{Request}
-use Rattle.rules.specs.declared.Verdict.{Verdict}
-use Rattle.rules.specs.declared.Verdict.the-variants.{Accepted, Refused}
-use Rattle.right.specs.Reading.{planValue}
-use Rattle.cases.specs.Tests.{Test, below, same, both, each, passes}
-use Rattle.cases.specs.Certificate.{distancesTest, tableTest, readsTest}
+use Rattle.rules.specs.declared.Verdict.the-variants.{Accepted}
 
 -- a plan with its cost, or 24
 pub data Outcome : Type 0 where
   plan : ℕ → List ℕ → Outcome
   none : Outcome
 
--- The distances are those of the riders to each node, and the table has a place for each set of riders and node, both as the search leaves them.
+-- The records, the outcome, and the places of the distances and of the work table that the search fills.
 pub record Case : Type 0 where
   pub network : List ℕ
   pub request : List ℕ
@@ -55,31 +50,6 @@ pub record Holds (c : Case) : Type 0 where
   pub distances : (j v : ℕ) → j < riders c .count → v < nodeCount (c .network) → HoldsDistance (c .network) (riderNodeOf (riders c) j) v (distanceAt c j v)
   pub table : (R v : ℕ) → R < 2 ^ riders c .count → v < nodeCount (c .network) → HoldsFinish (c .network) (riders c) R v (valueAt c R v)
   pub outcome : Right (c .network) (riders c) (c .outcome)
-
--- The test of a case.
-abbrev pub accepts : Verdict → Bool
-accepts Accepted = true
-accepts (Refused r) = false
-
-module _ (network : List ℕ) (q : Request) (D T : ℕ → ℕ → ℕ) where
-  abbrev pub outcomeTest : Outcome → Test
-  outcomeTest (plan cost steps) =
-      both (both (below (planValue q T) noFinish) (same (planValue q T / 4096) cost))
-      (readsTest network q D T (allRiders q) (q .source) steps)
-  outcomeTest none = same (planValue q T) noFinish
-
-  abbrev pub rulesTest : Outcome → Test
-  rulesTest outcome =
-      both (each (q .count) (λ j. distancesTest network (riderNodeOf q j) (D j)))
-      (both (tableTest network q D T) (outcomeTest outcome))
-
-abbrev pub caseTest : Case → Test
-caseTest c =
-    both (both (same (length (c .distances)) (distancePlaces (nodeCount (c .network)) (riders c .count))) (same (length (c .table)) (tablePlaces (nodeCount (c .network)) (riders c .count))))
-    (rulesTest (c .network) (riders c) (distanceAt c) (valueAt c) (c .outcome))
-
-unfoldable pub certified : Case → Bool
-certified c = accepts (requestVerdict (c .network) (c .request)) && passes (caseTest c)
 
 -- a claim of the case at place i of a table, if there is one
 abbrev pub Row : (Case → Type 0) → List Case → ℕ → Type 0

@@ -1,7 +1,5 @@
--- Tests that antt computes, certificates of what the rules give on one input, and the tables of cases.
-pub mod Tests
-pub mod Certificate
+-- What a case claims, the two tables of cases, and what a search of a case may end with.
 pub mod Cases
 pub mod TownRows
-pub mod Searches
 pub mod OwnRows
+pub mod Searches

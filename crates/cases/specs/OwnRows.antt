@@ -1,4 +1,4 @@
--- Cases beside document 01's: each has an outcome that one kind of wrong planner misses, though it gets all of A to K right.
+-- Cases beside document 01's. Each but the last has an outcome that one kind of wrong planner misses which gets all of A to K right.
 use Prim.Native.Nat.{ℕ, _+_, _/_}
 use mathlib.Core.List.{List, [], _∷_, _++_}
 use lib.ListN.{length}
@@ -89,5 +89,16 @@ closedWalk =
       table = 0 ∷ noFinish ∷ noFinish ∷ noFinish ∷ [];
     }
 
+-- Case B where links 4 and 6 are open to the bus at their walking cost.
+abbrev pub wallOpened : Case
+wallOpened =
+    record {
+      network = network 5 (link 0 1 3 9 ++ link 1 3 3 9 ++ link 0 2 5 closed ++ link 2 3 4 9 ++ link 4 1 2 2 ++ link 4 2 1 6 ++ link 1 4 2 2 ++ link 2 4 1 6);
+      request = request 0 3 1 (rider 4 10);
+      outcome = plan 10 (8 ∷ 14 ∷ 0 ∷ 12 ∷ 9 ∷ []);
+      distances = noDistance ∷ 2 ∷ 6 ∷ 11 ∷ 0 ∷ [];
+      table = best 6 2 ∷ best 3 1 ∷ best 4 1 ∷ 0 ∷ best 5 2 ∷ best 10 5 ∷ best 7 4 ∷ best 6 4 ∷ best 110 1 ∷ best 5 3 ∷ [];
+    }
+
 abbrev pub ownRows : List Case
-ownRows = beyondTarget ∷ twoLinks ∷ nearTwice ∷ oneForTwo ∷ offTheRoad ∷ wideCosts ∷ closedWalk ∷ []
+ownRows = beyondTarget ∷ twoLinks ∷ nearTwice ∷ oneForTwo ∷ offTheRoad ∷ wideCosts ∷ closedWalk ∷ wallOpened ∷ []

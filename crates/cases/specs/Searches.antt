@@ -1,12 +1,16 @@
 -- Searches of a case, and wrong ends of them.
-use Prim.Native.Nat.{ℕ, _≤_}
+use Prim.Native.Nat.{ℕ, _+_, _*_, _/_, _%_, _<_, _≤_}
 use mathlib.Core.Path.{_≡_}
+use mathlib.Core.Logic.{_≢_}
 use mathlib.Core.Bool.{Bool, true, false, _&&_}
 use mathlib.Core.List.{List, [], _∷_, _++_}
 use lib.Dec.{eqb}
-use lib.ListN.{length, drop, replicate}
+use lib.ListN.{length, getD, drop, replicate}
 use Rattle.rules.specs.Checks.{refuse}
 use Rattle.rules.specs.Network.{nodeCount}
+use Rattle.rules.specs.Request.{requestValue}
+use Rattle.rules.specs.Routes.{nodeAt}
+use Rattle.rules.specs.Plans.{allRiders}
 use Rattle.rules.specs.Rooms.{Written, distancePlaces, tablePlaces, stepPlaces}
 use Rattle.rules.specs.Answers.{Lent, Searched}
 use Rattle.rules.specs.declared.Planned.{Planned}
@@ -89,3 +93,19 @@ Planner = List ℕ → List ℕ → Lent → Result
 -- The planner keeps the search's promise at the case.
 abbrev pub Keeps : Planner → Case → Lent → Type 0
 Keeps p c before = SearchedCase c before (p (c .network) (c .request) before .after) (p (c .network) (c .request) before .answer)
+
+-- the table's place of all riders and the source
+abbrev pub planPlace : List ℕ → List ℕ → ℕ
+planPlace network request = allRiders (requestValue request) * nodeCount network + requestValue request .source
+
+-- The step count of a plan is the number of steps written. The table tells it by its remainder by 4,096, and the cost by its quotient.
+pub record Told (network request : List ℕ) (before after : Lent) (cost count : ℕ) : Type 0 where
+  pub steps : List ℕ
+  pub written : Written steps (before .steps) (after .steps)
+  pub counts : count ≡ length steps
+  pub quotient : getD (after .table) (planPlace network request) 0 / 4096 ≡ cost
+  pub remainder : getD (after .table) (planPlace network request) 0 % 4096 ≡ count
+
+-- No node is at two positions of the route.
+abbrev pub NoNodeTwice : Case → List ℕ → Type 0
+NoNodeTwice c route = (i j : ℕ) → i < j → j ≤ length route → nodeAt (c .network) (riders c .source) route i ≢ nodeAt (c .network) (riders c .source) route j

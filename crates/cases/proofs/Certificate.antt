@@ -1,18 +1,24 @@
--- A certificate of what the rules give on one input: the walking distances, the work table and the plan, as numbers of which only neighbours are compared.
+-- A certificate of what the rules give on one input: the walking distances, the work table and the plan. Its tests compare neighbours only, and are quickly computed. No reader need believe them: what passes is proved right.
 use Prim.Native.Nat.{ℕ, _+_, _-_, _*_, _/_, _%_, _^_}
-use mathlib.Core.Bool.{cond}
+use mathlib.Core.Bool.{Bool, true, false, _&&_, cond}
 use mathlib.Core.List.{List, [], _∷_}
 use lib.Dec.{ltb}
 use lib.ListN.{length, getD}
-use Rattle.rules.specs.Network.{nodeCount, linkCount, from, to, drive, walk, closed}
-use Rattle.rules.specs.Request.{riderWeightOf}
+use Rattle.rules.specs.Checks.{firstOf, each as checks}
+use Rattle.rules.specs.Numbers.{number}
+use Rattle.rules.specs.Network.{openingChecks, sizeChecks, networkChecks, nodeCount, linkCount, from, to, drive, walk, closed}
+use Rattle.rules.specs.Request.{countChecks, nodeChecks, weightChecks, requestChecks, riderNodeOf, riderWeightOf, requestVerdict, sevenPlaces, requestValue}
 use Rattle.rules.specs.Walks.{noDistance}
 use Rattle.rules.specs.Routes.{nodeAt, sum}
-use Rattle.rules.specs.Plans.{without}
-use Rattle.rules.specs.Rooms.{noFinish}
+use Rattle.rules.specs.Plans.{without, allRiders}
+use Rattle.rules.specs.Rooms.{noFinish, distancePlaces, tablePlaces}
 use Rattle.rules.specs.declared.Request.{Request}
+use Rattle.rules.specs.declared.Verdict.{Verdict}
+use Rattle.rules.specs.declared.Verdict.the-variants.{Accepted, Refused}
 use Rattle.finish.specs.Packed.{packedStep}
-use Rattle.cases.specs.Tests.{Test, atMost, below, same, both, either, given, each, some}
+use Rattle.right.specs.Reading.{planValue}
+use Rattle.cases.specs.Cases.{Outcome, plan, none, Case, riders, distanceAt, valueAt}
+use Rattle.cases.proofs.Tests.{Test, atMost, below, same, both, either, given, each, some, allBelow, anyBelow, passes}
 
 -- ---- walking distances from a start: d v is the one to v
 module _ (network : List ℕ) (start : ℕ) (d : ℕ → ℕ) where
@@ -20,7 +26,7 @@ module _ (network : List ℕ) (start : ℕ) (d : ℕ → ℕ) where
   abbrev pub noShorter : ℕ → Test
   noShorter k = given (below (walk network k) closed) (atMost (d (to network k)) (walk network k + d (from network k)))
 
-  -- the walk to v ends with link k
+  -- the walk to v ends with link k, which costs something
   abbrev pub endsWith : ℕ → ℕ → Test
   endsWith v k =
       both (both (same (to network k) v) (below (walk network k) closed))
@@ -129,3 +135,34 @@ module _ (network : List ℕ) (q : Request) (D : ℕ → ℕ → ℕ) (route : L
   priceTest meetings price =
       both (routeTest network (q .target) (q .source) route)
       (both (each (q .count) (λ j. meetingTest j (getD meetings j 0))) (same price (q .weight * driven network route + sum (q .count) (λ j. riderWeightOf q j * walkTo j (getD meetings j 0)))))
+
+-- ---- a case
+abbrev pub accepts : Verdict → Bool
+accepts Accepted = true
+accepts (Refused r) = false
+
+module _ (network : List ℕ) (q : Request) (D T : ℕ → ℕ → ℕ) where
+  abbrev pub outcomeTest : Outcome → Test
+  outcomeTest (plan cost steps) =
+      both (both (below (planValue q T) noFinish) (same (planValue q T / 4096) cost))
+      (readsTest network q D T (allRiders q) (q .source) steps)
+  outcomeTest none = same (planValue q T) noFinish
+
+  abbrev pub rulesTest : Outcome → Test
+  rulesTest outcome =
+      both (each (q .count) (λ j. distancesTest network (riderNodeOf q j) (D j)))
+      (both (tableTest network q D T) (outcomeTest outcome))
+
+abbrev pub caseTest : Case → Test
+caseTest c =
+    both (both (same (length (c .distances)) (distancePlaces (nodeCount (c .network)) (riders c .count))) (same (length (c .table)) (tablePlaces (nodeCount (c .network)) (riders c .count))))
+    (rulesTest (c .network) (riders c) (distanceAt c) (valueAt c) (c .outcome))
+
+unfoldable pub certified : Case → Bool
+unfolding firstOf checks number openingChecks sizeChecks networkChecks countChecks nodeChecks weightChecks requestChecks requestVerdict sevenPlaces requestValue allBelow anyBelow passes readsTest
+certified c = accepts (requestVerdict (c .network) (c .request)) && passes (caseTest c)
+
+-- the price of a route, by the distances of a case
+unfoldable pub pricedAt : Case → List ℕ → List ℕ → ℕ → Bool
+unfolding number sevenPlaces requestValue allBelow passes nodeAt sum routeTest driven
+pricedAt c route meetings price = passes (priceTest (c .network) (riders c) (distanceAt c) route meetings price)
