@@ -2,13 +2,14 @@
 use Prim.Native.Nat.{ℕ, suc, _+_, _*_, _^_, _<_, _≤_}
 use mathlib.Core.Path.{_≡_, refl, sym, ap, _∙_}
 use mathlib.Core.Logic.{inl}
-use mathlib.Core.Bool.{true, false, false≢true}
+use mathlib.Core.Bool.{Bool, true, false, _&&_, false≢true}
 use mathlib.Core.List.{List, [], _∷_}
 use lib.ListN.{length, take, drop, length-append, length-drop, length-replicate, List·getD-append}
 use lib.Seq.{take-append-seam, drop-append-seam}
 use lib.Pow.{pow-pos}
 use native.Mathlib.Nat.{suc-mul, mul-le-mul-right, le-refl}
 use native.Mathlib.Omega.{arith}
+use lib.Dec.{eqb}
 use borrow.Author.Tests.{le-ltb, eq-eqb}
 use Rattle.rules.specs.Checks.{firstOf}
 use Rattle.rules.specs.Network.{nodeCount}
@@ -25,7 +26,7 @@ use Rattle.rules.proofs.PlanLaws.{holds-finish-unique}
 use Rattle.rules.proofs.AnswerLaws.{searched-unique}
 use Rattle.finish.proofs.Bounds.{unpacks}
 use Rattle.cases.specs.Cases.{Outcome, plan, none, Case, riders, Right, Holds}
-use Rattle.cases.specs.Searches.{answerOf, stepsOf, Roomy, zeros, over, filled, SearchedCase, Fails, sameSteps, sameOutcome, Told}
+use Rattle.cases.specs.Searches.{answerOf, stepsOf, Roomy, zeros, over, filled, SearchedCase, Fails, Told}
 
 -- place i of row j is below rows times places
 place-below : {j rows i places : ℕ} → j < rows → i < places → j * places + i < rows * places
@@ -77,6 +78,20 @@ module _ {c : Case} (holds : Holds c) {before : Lent} (roomy : Roomy c before) w
   -- and in no other way.
   pub searched-case : {after : Lent} {answer : Planned} → SearchedCase c before after answer → (after ≡ filled c before) × (answer ≡ answerOf (c .outcome))
   searched-case s = searched-unique (c .request) s case-search
+
+-- whether two outcomes are the same
+unfoldable pub sameSteps : List ℕ → List ℕ → Bool
+sameSteps [] [] = true
+sameSteps [] (y ∷ ys) = false
+sameSteps (x ∷ xs) [] = false
+sameSteps (x ∷ xs) (y ∷ ys) = eqb x y && sameSteps xs ys
+
+unfoldable pub sameOutcome : Outcome → Outcome → Bool
+unfolding sameSteps
+sameOutcome (plan c xs) (plan d ys) = sameSteps xs ys && eqb c d
+sameOutcome (plan c xs) none = false
+sameOutcome none (plan d ys) = false
+sameOutcome none none = true
 
 same-steps : (xs : List ℕ) → sameSteps xs xs ≡ true
 unfolding sameSteps

@@ -15,12 +15,12 @@ use Rattle.rules.specs.declared.Planned.the-variants.{Plan as Found, Refused as
 use Rattle.rules.proofs.PlanLaws.{right-plan-unique}
 use Rattle.right.specs.Steps.{drivesOf}
 use Rattle.cases.specs.Cases.{plan, none, riders}
-use Rattle.cases.specs.Searches.{Roomy, zeros, SearchedCase, Fails, sameSteps, sameOutcome, Planner, Keeps, NoNodeTwice}
+use Rattle.cases.specs.Searches.{Roomy, zeros, SearchedCase, Fails, Planner, Keeps, NoNodeTwice, EndsAtTarget}
 use Rattle.cases.specs.TownRows.{rowA, rowB, rowC, rowF, rowJ}
 use Rattle.cases.specs.OwnRows.{beyondTarget, twoLinks, nearTwice, oneForTwo, offTheRoad, wideCosts, closedWalk, wallOpened}
 use Rattle.cases.proofs.Certificate.{pricedAt}
 use Rattle.cases.proofs.CaseLaws.{case-priced}
-use Rattle.cases.proofs.SearchLaws.{zeros-roomy, searched-case, fails}
+use Rattle.cases.proofs.SearchLaws.{zeros-roomy, searched-case, sameOutcome, fails}
 use Rattle.cases.proofs.Tables.{town-holds, own-holds}
 
 -- ---- the planners that document 01 has the promises tried on
@@ -62,7 +62,7 @@ module _ (p : Planner) where
 
 -- One that weighs rider 0 and only lists the others, at case J: it takes the plan of case A and meets rider 1 beside rider 0, whatever it says of the cost.
 pub weighs-rider-0 : (cost : ℕ) → Fails rowJ (plan cost (8 ∷ 0 ∷ 1 ∷ 9 ∷ []))
-unfolding sameSteps sameOutcome
+unfolding sameOutcome
 weighs-rider-0 cost = fails (plan cost (8 ∷ 0 ∷ 1 ∷ 9 ∷ [])) (town-holds 9) refl
 
 -- That plan costs 12, where the right one costs 11.
@@ -79,12 +79,12 @@ invents-the-count cost count other before after roomy s =
 -- ---- wrong plans seen on desks
 -- Driving a walkers' link at its walking cost, through the wall. It answers as is right where the wall is open, by the last of our own cases.
 pub drives-through-the-wall : Fails rowB (wallOpened .outcome)
-unfolding sameSteps sameOutcome
+unfolding sameOutcome
 drives-through-the-wall = fails (wallOpened .outcome) (town-holds 1) refl
 
--- Passing every rider's node, which costs 11 in case C.
+-- Passing every rider's node, by the shortcut of 000's Lemma 4.4: it costs 11 in case C.
 pub passes-every-rider : Fails rowC (plan 11 (10 ∷ 15 ∷ 0 ∷ 13 ∷ 11 ∷ []))
-unfolding sameSteps sameOutcome
+unfolding sameOutcome
 passes-every-rider = fails (plan 11 (10 ∷ 15 ∷ 0 ∷ 13 ∷ 11 ∷ [])) (town-holds 2) refl
 
 pub passes-every-rider-price : Price (rowC .network) (riders rowC) (2 ∷ 7 ∷ 5 ∷ 3 ∷ []) (2 ∷ []) 11
@@ -93,11 +93,11 @@ passes-every-rider-price = case-priced (town-holds 2) (2 ∷ 7 ∷ 5 ∷ 3 ∷ [
 
 -- Stopping when the target is first reached: in case B with the rider left behind, or met on the way for 26.
 pub stops-without-the-rider : (cost : ℕ) → Fails rowB (plan cost (8 ∷ 9 ∷ []))
-unfolding sameSteps sameOutcome
+unfolding sameOutcome
 stops-without-the-rider cost = fails (plan cost (8 ∷ 9 ∷ [])) (town-holds 1) refl
 
 pub stops-with-the-rider : Fails rowB (plan 26 (8 ∷ 0 ∷ 9 ∷ []))
-unfolding sameSteps sameOutcome
+unfolding sameOutcome
 stops-with-the-rider = fails (plan 26 (8 ∷ 0 ∷ 9 ∷ [])) (town-holds 1) refl
 
 pub stops-with-the-rider-price : Price (rowB .network) (riders rowB) (0 ∷ 1 ∷ []) (1 ∷ []) 26
@@ -123,29 +123,35 @@ unfolding sameOutcome
 gives-the-rider-up = fails none (own-holds 4) refl
 
 -- ---- planners that get all of A to K right
--- Never driving on from the target.
-pub ends-at-the-target : Fails beyondTarget none
+-- Never driving on from the target: with no plan, or with one that ends where it first reaches the target.
+pub no-way-beyond : Fails beyondTarget none
 unfolding sameOutcome
-ends-at-the-target = fails none (own-holds 0) refl
+no-way-beyond = fails none (own-holds 0) refl
+
+pub never-drives-on : {steps : List ℕ} {cost : ℕ} → RightPlan (beyondTarget .network) (riders beyondTarget) steps cost → EndsAtTarget beyondTarget (drivesOf steps) → ⊥
+unfolding number requestValue nodeAt drivesOf
+never-drives-on right ends =
+    let same = right-plan-unique right (own-holds 0 .outcome) .0 in
+    (rw same at ends) 1 (omega arith) refl
 
 -- Taking the highest link first.
 pub highest-link-first : Fails twoLinks (plan 1 (9 ∷ []))
-unfolding sameSteps sameOutcome
+unfolding sameOutcome
 highest-link-first = fails (plan 1 (9 ∷ [])) (own-holds 1) refl
 
 -- Driving before meeting.
 pub drives-before-it-meets : Fails nearTwice (plan 2 (8 ∷ 0 ∷ []))
-unfolding sameSteps sameOutcome
+unfolding sameOutcome
 drives-before-it-meets = fails (plan 2 (8 ∷ 0 ∷ [])) (own-holds 2) refl
 
 -- Ignoring fewest steps.
 pub ignores-fewest-steps : Fails oneForTwo (plan 2 (8 ∷ 9 ∷ []))
-unfolding sameSteps sameOutcome
+unfolding sameOutcome
 ignores-fewest-steps = fails (plan 2 (8 ∷ 9 ∷ [])) (own-holds 3) refl
 
 -- Keeping a cost in 16 bits: twice 50,000 becomes 34,464, or 65,535, and either way the one link seems cheaper.
 pub keeps-16-bits : (cost : ℕ) → Fails wideCosts (plan cost (8 ∷ []))
-unfolding sameSteps sameOutcome
+unfolding sameOutcome
 keeps-16-bits cost = fails (plan cost (8 ∷ [])) (own-holds 5) refl
 
 -- Walking a closed link at 65,535.

@@ -16,11 +16,11 @@ network nodes links = (1 ∷ 0 ∷ 0 ∷ []) ++ twoBytes (9 + length links) ++ t
 abbrev pub beyondTarget : Case
 beyondTarget =
     record {
-      network = network 2 (link 0 1 1 closed ++ link 1 0 1 closed);
-      request = request 0 0 1 (rider 1 1);
-      outcome = plan 2 (8 ∷ 0 ∷ 9 ∷ []);
-      distances = noDistance ∷ 0 ∷ [];
-      table = 0 ∷ best 1 1 ∷ best 2 3 ∷ best 1 2 ∷ [];
+      network = network 3 (link 0 1 1 closed ++ link 1 2 1 closed ++ link 2 1 1 closed);
+      request = request 0 1 1 (rider 2 1);
+      outcome = plan 3 (8 ∷ 9 ∷ 0 ∷ 10 ∷ []);
+      distances = noDistance ∷ noDistance ∷ 0 ∷ [];
+      table = best 1 1 ∷ 0 ∷ best 1 1 ∷ best 3 4 ∷ best 2 3 ∷ best 1 2 ∷ [];
     }
 
 -- Two links of the same cost lead from the source to the target: the lower number comes first.

@@ -2,9 +2,7 @@
 use Prim.Native.Nat.{ℕ, _+_, _*_, _/_, _%_, _<_, _≤_}
 use mathlib.Core.Path.{_≡_}
 use mathlib.Core.Logic.{_≢_}
-use mathlib.Core.Bool.{Bool, true, false, _&&_}
-use mathlib.Core.List.{List, [], _∷_, _++_}
-use lib.Dec.{eqb}
+use mathlib.Core.List.{List, [], _++_}
 use lib.ListN.{length, getD, drop, replicate}
 use Rattle.rules.specs.Checks.{refuse}
 use Rattle.rules.specs.Network.{nodeCount}
@@ -69,19 +67,6 @@ SearchedCase c before after answer = Searched (c .network) (c .request) before a
 abbrev pub Fails : Case → Outcome → Type 0
 Fails c wrong = (before after : Lent) → Roomy c before → SearchedCase c before after (answerOf wrong) → Written (stepsOf wrong) (before .steps) (after .steps) → ⊥
 
--- whether two outcomes are the same
-unfoldable pub sameSteps : List ℕ → List ℕ → Bool
-sameSteps [] [] = true
-sameSteps [] (y ∷ ys) = false
-sameSteps (x ∷ xs) [] = false
-sameSteps (x ∷ xs) (y ∷ ys) = eqb x y && sameSteps xs ys
-
-unfoldable pub sameOutcome : Outcome → Outcome → Bool
-sameOutcome (plan c xs) (plan d ys) = sameSteps xs ys && eqb c d
-sameOutcome (plan c xs) none = false
-sameOutcome none (plan d ys) = false
-sameOutcome none none = true
-
 -- What answers every search: an answer, and what it leaves in the rooms.
 pub record Result : Type 0 where
   pub answer : Planned
@@ -109,3 +94,7 @@ pub record Told (network request : List ℕ) (before after : Lent) (cost count :
 -- No node is at two positions of the route.
 abbrev pub NoNodeTwice : Case → List ℕ → Type 0
 NoNodeTwice c route = (i j : ℕ) → i < j → j ≤ length route → nodeAt (c .network) (riders c .source) route i ≢ nodeAt (c .network) (riders c .source) route j
+
+-- The route is at the target at no position but its last.
+abbrev pub EndsAtTarget : Case → List ℕ → Type 0
+EndsAtTarget c route = (i : ℕ) → i < length route → nodeAt (c .network) (riders c .source) route i ≢ riders c .target
