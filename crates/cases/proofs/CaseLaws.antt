@@ -19,7 +19,7 @@ use Rattle.finish.proofs.Bounds.{least-holds, unpacks}
 use Rattle.right.proofs.Reading.{reading-start}
 use Rattle.cases.proofs.Tests.{Says, passes}
 use Rattle.cases.proofs.Certificate.{tableTest, priceTest, accepts, outcomeTest, caseTest, certified, pricedAt}
-use Rattle.cases.specs.Cases.{Outcome, plan, none, Case, riders, distanceAt, Right, Holds, Row}
+use Rattle.cases.specs.Cases.{Outcome, plan, none, Case, asked, distanceAt, Right, Holds, Row}
 use Rattle.cases.proofs.TestLaws.{and-both, decides}
 use Rattle.cases.proofs.DistanceLaws.{distances-hold}
 use Rattle.cases.proofs.MoveLaws.{Walking}
@@ -52,7 +52,7 @@ holds c e =
     let ((distanceSize, tableSize), (walks, (table, outcome))) = decides (caseTest c) .0 rest in
     let (sound, request) = records-sound (c .network) (c .request) accepted in
     let value = value-sound (nodeCount (c .network)) (c .request) request in
-    let walking : Walking (c .network) (riders c) (distanceAt c) = λ j v h g. distances-hold sound (walks j h) g in
+    let walking : Walking (c .network) (asked c) (distanceAt c) = λ j v h g. distances-hold sound (walks j h) g in
     record {
       accepted = accepted;
       distanceSize = distanceSize;
@@ -69,8 +69,8 @@ every-holds (c ∷ cs) e zero = holds c (cc)
 every-holds (c ∷ cs) e (suc i) = every-holds cs (cc) i
 
 -- A route whose price passes its test, by the distances of a case.
-pub case-priced : {c : Case} → Holds c → (route meetings : List ℕ) {price : ℕ} → pricedAt c route meetings price ≡ true → Price (c .network) (riders c) route meetings price
+pub case-priced : {c : Case} → Holds c → (route meetings : List ℕ) {price : ℕ} → pricedAt c route meetings price ≡ true → Price (c .network) (asked c) route meetings price
 unfolding pricedAt
 case-priced {c} so route meetings e =
     let (sound, request) = records-sound (c .network) (c .request) (so .accepted) in
-    priced sound (value-sound (nodeCount (c .network)) (c .request) request) (so .distances) route meetings (decides (priceTest (c .network) (riders c) (distanceAt c) route meetings _) .0 e)
+    priced sound (value-sound (nodeCount (c .network)) (c .request) request) (so .distances) route meetings (decides (priceTest (c .network) (asked c) (distanceAt c) route meetings _) .0 e)

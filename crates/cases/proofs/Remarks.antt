@@ -12,7 +12,7 @@ use Rattle.rules.specs.Answers.{Lent, Searched}
 use Rattle.rules.specs.Town.{town, caseA}
 use Rattle.rules.specs.declared.Planned.{Planned}
 use Rattle.rules.specs.declared.Planned.the-variants.{Plan as Found}
-use Rattle.cases.specs.Cases.{riders}
+use Rattle.cases.specs.Cases.{asked}
 use Rattle.cases.specs.TownRows.{rowA, rowD}
 use Rattle.cases.specs.Searches.{Roomy, filled}
 use Rattle.cases.proofs.Certificate.{pricedAt}
@@ -48,6 +48,6 @@ unfolding pricedAt
 price-in-A = case-priced (town-holds 0) (2 ∷ 3 ∷ []) (1 ∷ []) refl
 
 -- D: "tie with B's route", which costs 22 too.
-pub price-in-D : Price town (riders rowD) (2 ∷ 7 ∷ 5 ∷ 3 ∷ []) (2 ∷ []) 22
+pub price-in-D : Price town (asked rowD) (2 ∷ 7 ∷ 5 ∷ 3 ∷ []) (2 ∷ []) 22
 unfolding pricedAt
 price-in-D = case-priced (town-holds 3) (2 ∷ 7 ∷ 5 ∷ 3 ∷ []) (2 ∷ []) refl

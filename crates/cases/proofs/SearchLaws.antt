@@ -25,7 +25,7 @@ use Rattle.rules.proofs.SoundRequestLaws.{records-sound, value-sound}
 use Rattle.rules.proofs.PlanLaws.{holds-finish-unique}
 use Rattle.rules.proofs.AnswerLaws.{searched-unique}
 use Rattle.finish.proofs.Bounds.{unpacks}
-use Rattle.cases.specs.Cases.{Outcome, plan, none, Case, riders, Right, Holds}
+use Rattle.cases.specs.Cases.{Outcome, plan, none, Case, asked, Right, Holds}
 use Rattle.cases.specs.Searches.{answerOf, stepsOf, Roomy, zeros, over, filled, SearchedCase, Fails, Told}
 
 -- place i of row j is below rows times places
@@ -49,7 +49,7 @@ module _ {c : Case} (holds : Holds c) {before : Lent} (roomy : Roomy c before) w
       front-passed (recordChecks (c .network) (c .request)) _ (holds .accepted)
       ∙ simp (le-ltb _ _ (roomy .distances), le-ltb _ _ (roomy .table), le-ltb _ _ (roomy .steps))
 
-  distances-filled : Distances (c .network) (riders c) (before .distances) (filled c before .distances)
+  distances-filled : Distances (c .network) (asked c) (before .distances) (filled c before .distances)
   distances-filled =
       record {
         holds = λ j v h g.
@@ -58,7 +58,7 @@ module _ {c : Case} (holds : Holds c) {before : Lent} (roomy : Roomy c before) w
         kept = over-kept (c .distances) (before .distances) (holds .distanceSize) (roomy .distances);
       }
 
-  table-filled : Table (c .network) (riders c) (before .table) (filled c before .table)
+  table-filled : Table (c .network) (asked c) (before .table) (filled c before .table)
   table-filled =
       record {
         holds = λ R v h g.
@@ -67,7 +67,7 @@ module _ {c : Case} (holds : Holds c) {before : Lent} (roomy : Roomy c before) w
         kept = over-kept (c .table) (before .table) (holds .tableSize) (roomy .table);
       }
 
-  ends : (o : Outcome) {after : Lent} → Right (c .network) (riders c) o → after .distances ≡ filled c before .distances → after .table ≡ filled c before .table → after .steps ≡ over (stepsOf o) (before .steps) → SearchedCase c before after (answerOf o)
+  ends : (o : Outcome) {after : Lent} → Right (c .network) (asked c) o → after .distances ≡ filled c before .distances → after .table ≡ filled c before .table → after .steps ≡ over (stepsOf o) (before .steps) → SearchedCase c before after (answerOf o)
   ends (plan cost steps) right d t s = planned steps cost room-accepted (rw d distances-filled) (rw t table-filled) right refl s
   ends none right d t s = hopeless room-accepted (rw d distances-filled) (rw t table-filled) right refl s
 

@@ -14,7 +14,7 @@ use Rattle.rules.specs.declared.Refusal.{Refusal}
 use Rattle.rules.specs.declared.Planned.the-variants.{Plan as Found, Refused as NotPlanned}
 use Rattle.rules.proofs.PlanLaws.{right-plan-unique}
 use Rattle.right.specs.Steps.{drivesOf}
-use Rattle.cases.specs.Cases.{plan, none, riders}
+use Rattle.cases.specs.Cases.{plan, none, asked}
 use Rattle.cases.specs.Searches.{Roomy, zeros, SearchedCase, Fails, Planner, Keeps, NoNodeTwice, EndsAtTarget}
 use Rattle.cases.specs.TownRows.{rowA, rowB, rowC, rowF, rowJ}
 use Rattle.cases.specs.OwnRows.{beyondTarget, twoLinks, nearTwice, oneForTwo, offTheRoad, wideCosts, closedWalk, wallOpened}
@@ -66,7 +66,7 @@ unfolding sameOutcome
 weighs-rider-0 cost = fails (plan cost (8 ∷ 0 ∷ 1 ∷ 9 ∷ [])) (town-holds 9) refl
 
 -- That plan costs 12, where the right one costs 11.
-pub weighs-rider-0-price : Price (rowJ .network) (riders rowJ) (0 ∷ 1 ∷ []) (1 ∷ 1 ∷ []) 12
+pub weighs-rider-0-price : Price (rowJ .network) (asked rowJ) (0 ∷ 1 ∷ []) (1 ∷ 1 ∷ []) 12
 unfolding pricedAt
 weighs-rider-0-price = case-priced (town-holds 9) (0 ∷ 1 ∷ []) (1 ∷ 1 ∷ []) refl
 
@@ -87,7 +87,7 @@ pub passes-every-rider : Fails rowC (plan 11 (10 ∷ 15 ∷ 0 ∷ 13 ∷ 11 ∷ 
 unfolding sameOutcome
 passes-every-rider = fails (plan 11 (10 ∷ 15 ∷ 0 ∷ 13 ∷ 11 ∷ [])) (town-holds 2) refl
 
-pub passes-every-rider-price : Price (rowC .network) (riders rowC) (2 ∷ 7 ∷ 5 ∷ 3 ∷ []) (2 ∷ []) 11
+pub passes-every-rider-price : Price (rowC .network) (asked rowC) (2 ∷ 7 ∷ 5 ∷ 3 ∷ []) (2 ∷ []) 11
 unfolding pricedAt
 passes-every-rider-price = case-priced (town-holds 2) (2 ∷ 7 ∷ 5 ∷ 3 ∷ []) (2 ∷ []) refl
 
@@ -100,18 +100,18 @@ pub stops-with-the-rider : Fails rowB (plan 26 (8 ∷ 0 ∷ 9 ∷ []))
 unfolding sameOutcome
 stops-with-the-rider = fails (plan 26 (8 ∷ 0 ∷ 9 ∷ [])) (town-holds 1) refl
 
-pub stops-with-the-rider-price : Price (rowB .network) (riders rowB) (0 ∷ 1 ∷ []) (1 ∷ []) 26
+pub stops-with-the-rider-price : Price (rowB .network) (asked rowB) (0 ∷ 1 ∷ []) (1 ∷ []) 26
 unfolding pricedAt
 stops-with-the-rider-price = case-priced (town-holds 1) (0 ∷ 1 ∷ []) (1 ∷ []) refl
 
 -- Forbidding repeated nodes: no right plan of cases B and J goes without.
-pub forbids-repeated-nodes-B : {steps : List ℕ} {cost : ℕ} → RightPlan (rowB .network) (riders rowB) steps cost → NoNodeTwice rowB (drivesOf steps) → ⊥
+pub forbids-repeated-nodes-B : {steps : List ℕ} {cost : ℕ} → RightPlan (rowB .network) (asked rowB) steps cost → NoNodeTwice rowB (drivesOf steps) → ⊥
 unfolding number nodeAt drivesOf
 forbids-repeated-nodes-B right once =
     let same = right-plan-unique right (town-holds 1 .outcome) .0 in
     (rw same at once) 1 3 (omega arith) (omega arith) refl
 
-pub forbids-repeated-nodes-J : {steps : List ℕ} {cost : ℕ} → RightPlan (rowJ .network) (riders rowJ) steps cost → NoNodeTwice rowJ (drivesOf steps) → ⊥
+pub forbids-repeated-nodes-J : {steps : List ℕ} {cost : ℕ} → RightPlan (rowJ .network) (asked rowJ) steps cost → NoNodeTwice rowJ (drivesOf steps) → ⊥
 unfolding number nodeAt drivesOf
 forbids-repeated-nodes-J right once =
     let same = right-plan-unique right (town-holds 9 .outcome) .0 in
@@ -128,7 +128,7 @@ pub no-way-beyond : Fails beyondTarget none
 unfolding sameOutcome
 no-way-beyond = fails none (own-holds 0) refl
 
-pub never-drives-on : {steps : List ℕ} {cost : ℕ} → RightPlan (beyondTarget .network) (riders beyondTarget) steps cost → EndsAtTarget beyondTarget (drivesOf steps) → ⊥
+pub never-drives-on : {steps : List ℕ} {cost : ℕ} → RightPlan (beyondTarget .network) (asked beyondTarget) steps cost → EndsAtTarget beyondTarget (drivesOf steps) → ⊥
 unfolding number requestValue nodeAt drivesOf
 never-drives-on right ends =
     let same = right-plan-unique right (own-holds 0 .outcome) .0 in

@@ -24,8 +24,9 @@ pub record Case : Type 0 where
   pub distances : List ℕ
   pub table : List ℕ
 
-abbrev pub riders : Case → Request
-riders c = requestValue (c .request)
+-- the request as one value
+abbrev pub asked : Case → Request
+asked c = requestValue (c .request)
 
 abbrev pub distanceAt : Case → ℕ → ℕ → ℕ
 distanceAt c j v = getD (c .distances) (j * nodeCount (c .network) + v) 0
@@ -45,11 +46,11 @@ Right network q none = NoPlan network q
 -- The claim of a case: its records are sound, its outcome is right, and so is every place of its distances and its table.
 pub record Holds (c : Case) : Type 0 where
   pub accepted : requestVerdict (c .network) (c .request) ≡ Accepted
-  pub distanceSize : length (c .distances) ≡ distancePlaces (nodeCount (c .network)) (riders c .count)
-  pub tableSize : length (c .table) ≡ tablePlaces (nodeCount (c .network)) (riders c .count)
-  pub distances : (j v : ℕ) → j < riders c .count → v < nodeCount (c .network) → HoldsDistance (c .network) (riderNodeOf (riders c) j) v (distanceAt c j v)
-  pub table : (R v : ℕ) → R < 2 ^ riders c .count → v < nodeCount (c .network) → HoldsFinish (c .network) (riders c) R v (valueAt c R v)
-  pub outcome : Right (c .network) (riders c) (c .outcome)
+  pub distanceSize : length (c .distances) ≡ distancePlaces (nodeCount (c .network)) (asked c .count)
+  pub tableSize : length (c .table) ≡ tablePlaces (nodeCount (c .network)) (asked c .count)
+  pub distances : (j v : ℕ) → j < asked c .count → v < nodeCount (c .network) → HoldsDistance (c .network) (riderNodeOf (asked c) j) v (distanceAt c j v)
+  pub table : (R v : ℕ) → R < 2 ^ asked c .count → v < nodeCount (c .network) → HoldsFinish (c .network) (asked c) R v (valueAt c R v)
+  pub outcome : Right (c .network) (asked c) (c .outcome)
 
 -- a claim of the case at place i of a table, if there is one
 abbrev pub Row : (Case → Type 0) → List Case → ℕ → Type 0

@@ -13,7 +13,7 @@ use Rattle.rules.specs.Rooms.{Written, distancePlaces, tablePlaces, stepPlaces}
 use Rattle.rules.specs.Answers.{Lent, Searched}
 use Rattle.rules.specs.declared.Planned.{Planned}
 use Rattle.rules.specs.declared.Planned.the-variants.{Plan as Found, Refused as NotPlanned}
-use Rattle.cases.specs.Cases.{Outcome, plan, none, Case, riders}
+use Rattle.cases.specs.Cases.{Outcome, plan, none, Case, asked}
 
 abbrev pub answerOf : Outcome → Planned
 answerOf (plan cost steps) = Found cost (length steps)
@@ -25,13 +25,13 @@ stepsOf none = []
 
 -- the places that a case needs
 abbrev pub distanceNeed : Case → ℕ
-distanceNeed c = distancePlaces (nodeCount (c .network)) (riders c .count)
+distanceNeed c = distancePlaces (nodeCount (c .network)) (asked c .count)
 
 abbrev pub tableNeed : Case → ℕ
-tableNeed c = tablePlaces (nodeCount (c .network)) (riders c .count)
+tableNeed c = tablePlaces (nodeCount (c .network)) (asked c .count)
 
 abbrev pub stepNeed : Case → ℕ
-stepNeed c = stepPlaces (nodeCount (c .network)) (riders c .count)
+stepNeed c = stepPlaces (nodeCount (c .network)) (asked c .count)
 
 -- Rooms with so many places or more.
 pub record Roomy (c : Case) (before : Lent) : Type 0 where
@@ -93,8 +93,8 @@ pub record Told (network request : List ℕ) (before after : Lent) (cost count :
 
 -- No node is at two positions of the route.
 abbrev pub NoNodeTwice : Case → List ℕ → Type 0
-NoNodeTwice c route = (i j : ℕ) → i < j → j ≤ length route → nodeAt (c .network) (riders c .source) route i ≢ nodeAt (c .network) (riders c .source) route j
+NoNodeTwice c route = (i j : ℕ) → i < j → j ≤ length route → nodeAt (c .network) (asked c .source) route i ≢ nodeAt (c .network) (asked c .source) route j
 
 -- The route is at the target at no position but its last.
 abbrev pub EndsAtTarget : Case → List ℕ → Type 0
-EndsAtTarget c route = (i : ℕ) → i < length route → nodeAt (c .network) (riders c .source) route i ≢ riders c .target
+EndsAtTarget c route = (i : ℕ) → i < length route → nodeAt (c .network) (asked c .source) route i ≢ asked c .target
