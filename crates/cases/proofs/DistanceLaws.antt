@@ -7,16 +7,13 @@ use native.Mathlib.Omega.{arith}
 use Rattle.rules.specs.Network.{nodeCount, from, walk, SoundNetwork}
 use Rattle.rules.specs.Walks.{HoldsDistance, noDistance}
 use Rattle.least.specs.Trips.{done, step}
-use Rattle.least.specs.Walking.{EndsBelow, WalkTrip}
+use Rattle.least.specs.Walking.{WalkTrip}
 use Rattle.least.proofs.Trips.{fixpoint}
-use Rattle.least.proofs.Walking.{inside, distance}
+use Rattle.least.proofs.Walking.{ends-below, inside, distance}
 use Rattle.cases.proofs.Tests.{Says}
 use Rattle.cases.proofs.Certificate.{distancesTest}
 
 module _ {network : List ℕ} (sound : SoundNetwork network) {start : ℕ} {d : ℕ → ℕ} (tested : Says (distancesTest network start d)) where
-  ends-below : EndsBelow (nodeCount network) network
-  ends-below k h = (sound .starts k h, sound .ends k h)
-
   -- Each link of the walk costs something, so the distance falls until the start is reached.
   walked : (fuel v : ℕ) → v < nodeCount network → d v < fuel → d v < noDistance → WalkTrip network start v (d v)
   walked zero v h less far = absurd (omega arith)
@@ -30,8 +27,8 @@ module _ {network : List ℕ} (sound : SoundNetwork network) {start : ℕ} {d : 
 
   pub distances-hold : {v : ℕ} → v < nodeCount network → HoldsDistance network start v (d v)
   distances-hold {v} h =
-      distance ends-below (sound .nodes) h
-      (fixpoint (inside ends-below) {T = d}
+      distance (ends-below sound) (sound .nodes) h
+      (fixpoint (inside (ends-below sound)) {T = d}
       (λ u g. record { capped = tested .1 .1 u g .0; started = λ c (here, free). rw (here, free, tested .0) (omega arith); met = walked (suc (d u)) u g (omega arith) })
       (λ u x w g i (k, l). rw (← l .starts, ← l .ends, ← l .costs) (tested .1 .0 k (l .exists) (omega arith)))
       v h)

@@ -1,6 +1,6 @@
 -- A table that passes its test has the least packed values, and the steps that pass theirs are the right plan.
 use Prim.Native.Nat.{ℕ, zero, suc, _+_, _*_, _/_, _^_, _<_, _≤_}
-use mathlib.Core.Path.{refl, ap}
+use mathlib.Core.Path.{refl}
 use mathlib.Core.Logic.{inl, inr}
 use mathlib.Core.List.{List, [], _∷_, _++_, append-nil, append-assoc}
 use lib.ListN.{length}
@@ -14,15 +14,10 @@ use Rattle.rules.specs.declared.Request.{Request}
 use Rattle.finish.specs.Packed.{Packed, packedStep}
 use Rattle.finish.proofs.Sets.{has-below}
 use Rattle.right.specs.Reading.{Tabled, Step, meets, drives, Next, planValue, Reading}
-use Rattle.right.proofs.Reading.{reading-next, reading-done}
+use Rattle.right.proofs.Reading.{go-on, step-inside, reading-next, reading-done}
 use Rattle.cases.proofs.Tests.{Says}
 use Rattle.cases.proofs.Certificate.{move, onward, tableTest, readsTest}
 use Rattle.cases.proofs.MoveLaws.{Walking, step-move, move-step}
-
--- One step more in front of a finish.
-go-on : {network : List ℕ} {q : Request} {R v step S x c rest : ℕ} {steps : List ℕ} → Step network q R v step S x c → Finish network q S x steps rest → Finish network q R v (step ∷ steps) (c + rest)
-go-on {rest = rest} (meets d has walks s x e) f = meet d rest has walks (rw (s, x) at f) (ap (λ (c : ℕ). c + rest) e)
-go-on {x = x} {rest = rest} (drives k w s link r e) f = drive k x w rest s link (rw r at f) (ap (λ (c : ℕ). c + rest) e)
 
 -- The numbers of a network's steps.
 step-number : {network : List ℕ} {q : Request} {R v step S x c : ℕ} → SoundValue (nodeCount network) q → R < 2 ^ q .count → Step network q R v step S x c → step < 8 + linkCount network
@@ -42,10 +37,6 @@ module _ {network : List ℕ} {q : Request} {D T : ℕ → ℕ → ℕ} (sound :
   lowest small h (meet d rest has walks f e) = omega (arith, relaxed small h (meets d has walks refl refl refl), lowest (omega arith) h f)
   lowest small h (drive k x w rest s leads f e) = omega (arith, relaxed small h (drives k w s leads refl refl), lowest small (omega (arith, sound .ends k (leads .exists))) f)
 
-  inside : {R v step S x c : ℕ} → R < 2 ^ q .count → v < nodeCount network → Step network q R v step S x c → (S < 2 ^ q .count) × (x < nodeCount network)
-  inside small h (meets _ _ _ s x _) = (omega arith, omega arith)
-  inside small h (drives k _ _ link s _) = (omega arith, omega (arith, sound .ends k (link .exists)))
-
   -- Every step takes at least 1, so the value falls until all is done.
   finished : (fuel R v : ℕ) → R < 2 ^ q .count → v < nodeCount network → T R v < fuel → T R v < noFinish → Packed network q R v (T R v)
   finished zero R v small h less far = absurd (omega arith)
@@ -53,7 +44,7 @@ module _ {network : List ℕ} {q : Request} {D T : ℕ → ℕ → ℕ} (sound :
     | inl here ↦ record { steps = []; cost = 0; finishes = arrive (here .0) (here .1) refl; packs = tested R small v h .0 .1 here }
     | inr (step, g, l) ↦ (
         let s = move-step sound value walking small h step (l .0) in
-        let (i, j) = inside small h s in
+        let (i, j) = step-inside sound s small h in
         let rest = finished fuel (move network q D R v step .set) (move network q D R v step .node) i j (omega (arith, l .1)) (omega (arith, l .1)) in
         record { steps = step ∷ rest .steps; cost = _; finishes = go-on s (rest .finishes); packs = omega (arith, l .1, rest .packs) }
         )

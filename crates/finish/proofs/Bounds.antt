@@ -17,8 +17,8 @@ use Rattle.rules.specs.Rooms.{HoldsFinish, noFinish, stepPlaces}
 use Rattle.rules.specs.declared.Request.{Request}
 use Rattle.rules.proofs.PlanLaws.{holds-finish-unique}
 use Rattle.least.specs.Least.{Least}
-use Rattle.least.specs.Walking.{EndsBelow, WalkTrip}
-use Rattle.least.proofs.Walking.{inside, walk-trip, trip-walk}
+use Rattle.least.specs.Walking.{WalkTrip}
+use Rattle.least.proofs.Walking.{ends-below, inside, walk-trip, trip-walk}
 use Rattle.least.proofs.Shortening.{bounded}
 use Rattle.finish.specs.Short.{Bounded}
 use Rattle.finish.specs.Packed.{Packed, Unpacks}
@@ -28,13 +28,10 @@ use Rattle.finish.proofs.Packing.{packed}
 use Rattle.finish.proofs.Shortening.{shorter}
 
 module _ {network : List ℕ} (sound : SoundNetwork network) where
-  ends-below : EndsBelow (nodeCount network) network
-  ends-below k h = (sound .starts k h, sound .ends k h)
-
   pub walking-bounded : {u v d : ℕ} → v < nodeCount network → WalkingDistance network u v d → d ≤ 511 * 65534
   walking-bounded {d = d} h walks =
       let lowest : (sum : ℕ) → WalkTrip network _ _ sum → d ≤ sum = λ sum t. walks .least _ sum (trip-walk t .1) in
-      omega (arith, sound .nodes, bounded 65534 0 (λ u v w a. omega arith) (λ u c i. omega arith) (inside ends-below) h lowest (walk-trip (walks .walked)))
+      omega (arith, sound .nodes, bounded 65534 0 (λ u v w a. omega arith) (λ u c i. omega arith) (inside (ends-below sound)) h lowest (walk-trip (walks .walked)))
 
   module _ {q : Request} (value : SoundValue (nodeCount network) q) where
     -- A finish meets each rider of R once, and drives with its other steps.
@@ -61,7 +58,7 @@ module _ {network : List ℕ} (sound : SoundNetwork network) where
       -- A best finish has no more steps than the one of few steps that costs no more, since that costs the same.
       pub best-bounded : {steps : List ℕ} {cost : ℕ} → Best network q R v steps cost → Bounded (nodeCount network) (ones R) steps cost
       best-bounded {cost = cost} best =
-          let s = shorter ends-below h (best .finishes) in
+          let s = shorter (ends-below sound) h (best .finishes) in
           let same : s .cost ≡ cost = omega (arith, best .cheapest (s .steps) (s .cost) (s .finishes)) in
           bound (best .finishes) (omega (arith, best .fewest (s .steps) (rw same at (s .finishes))))
 
@@ -71,7 +68,7 @@ module _ {network : List ℕ} (sound : SoundNetwork network) where
       -- The shorter finish packs into a number below the cap.
       undercuts : {steps : List ℕ} {cost place : ℕ} → Least noFinish (Packed network q R v) place → Finish network q R v steps cost → (place ≤ 4096 * cost + 4095) × (place < noFinish)
       undercuts l f =
-          let s = shorter ends-below h f in
+          let s = shorter (ends-below sound) h f in
           let b = bound (s .finishes) (s .short) in
           let least = l .lowest _ (packed (s .finishes)) in
           (omega arith, omega arith)

@@ -6,6 +6,7 @@ use mathlib.Core.List.{List, [], _∷_}
 use native.Mathlib.Nat.{add-zero}
 use native.Mathlib.Decide.{decLt}
 use native.Mathlib.Omega.{arith}
+use Rattle.rules.specs.Network.{SoundNetwork, nodeCount}
 use Rattle.rules.specs.Walks.{Way, arrived, along, Walk, HoldsDistance, noDistance}
 use Rattle.least.specs.Trips.{Arcs, Trip, done, step, At, Inside, Turned}
 use Rattle.least.specs.Least.{Least}
@@ -41,6 +42,10 @@ module _ {network : List ℕ} {start v : ℕ} where
 
   pub trip-walk : {sum : ℕ} → WalkTrip network start v sum → (links : List ℕ) × Walk network start v links sum
   trip-walk t = trip-way (turned t)
+
+-- A sound network's links start and end at its nodes.
+pub ends-below : {network : List ℕ} → SoundNetwork network → EndsBelow (nodeCount network) network
+ends-below sound k h = (sound .starts k h, sound .ends k h)
 
 module _ {network : List ℕ} {n : ℕ} (ends : EndsBelow n network) where
   pub inside : Inside n (WalkBack network)

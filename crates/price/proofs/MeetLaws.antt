@@ -1,44 +1,31 @@
 -- The riders are met one after the other, each at the nearest position.
-use Prim.Native.Nat.{ℕ, zero, suc, _+_, _*_, _≤_, _<_}
+use Prim.Native.Nat.{ℕ, _+_, _*_, _≤_, _<_}
 use native.Mathlib.Omega.{arith}
-use native.Mathlib.Decide.{ℕ-discrete, decLt}
-use native.Mathlib.Nat.{mul-le-mul, add-zero}
-use mathlib.Core.Path.{_≡_, refl, sym, _∙_, ap}
+use native.Mathlib.Decide.{ℕ-discrete}
+use native.Mathlib.Nat.{mul-le-mul}
+use mathlib.Core.Path.{_≡_, refl, _∙_, ap}
 use mathlib.Core.Logic.{⊎-elim, inl}
-use mathlib.Core.Bool.{Bool, true, false, cond}
-use mathlib.Core.List.{List, [], _∷_}
-use lib.ListN.{length, getD, set, take, replicate, length-set}
+use mathlib.Core.Bool.{cond}
+use mathlib.Core.List.{List}
+use lib.ListN.{set, take, replicate, length-set}
 use lib.Seq.{getD-set-same, getD-set-other, getD-take, length-take-le}
 use lib.Dec.{eqb}
 use borrow.Author.Tests.{eq-eqb, ne-eqb}
 use Rattle.rules.specs.Checks.{refuse}
-use Rattle.rules.specs.Network.{SoundNetwork, nodeCount}
-use Rattle.rules.specs.Walks.{WalkingDistance, noDistance}
+use Rattle.rules.specs.Walks.{noDistance}
 use Rattle.rules.specs.Request.{riderNodeOf, riderWeightOf}
-use Rattle.rules.specs.Routes.{nodeAt, Meeting, Price, Stranded, sum}
+use Rattle.rules.specs.Routes.{Meeting, Stranded, sum}
 use Rattle.rules.specs.Answers.{Pricing, stranded, priced}
 use Rattle.rules.specs.declared.Request.{Request}
 use Rattle.rules.specs.declared.Verdict.the-variants.{Accepted}
 use Rattle.rules.specs.declared.Priced.{Priced}
 use Rattle.rules.specs.declared.Priced.the-variants.{Price as Costs, Refused}
 use Rattle.rules.proofs.PriceLaws.{sum-same}
-use Rattle.least.specs.Walking.{EndsBelow}
-use Rattle.least.proofs.Walking.{inside, walk-trip, trip-walk}
-use Rattle.least.proofs.Shortening.{bounded}
+use Rattle.finish.proofs.Bounds.{walking-bounded}
 use Rattle.price.specs.Near.{RouteFrom, Near}
 use Rattle.price.specs.Meetings.{Driveable, Met, meetingsOf}
 use Rattle.price.proofs.RouteLaws.{sum-more}
 use Rattle.price.proofs.NearLaws.{node-below}
-
--- a walking distance is never the mark of none
-distance-below : {network : List ℕ} {u v d : ℕ} → SoundNetwork network → v < nodeCount network → WalkingDistance network u v d → d < noDistance
-distance-below sound h walk =
-    let ends : EndsBelow _ _ = λ k g. (sound .starts k g, sound .ends k g) in
-    omega (
-      arith,
-      bounded 65534 0 (λ u v w a. omega arith) (λ u c i. omega arith) (inside ends) h
-          (λ d t. walk .least _ _ (trip-walk t .1)) (walk-trip (walk .walked)),
-    )
 
 module _ {network : List ℕ} (q : Request) {route : List ℕ} (j : ℕ) {position place : ℕ} (so : Near network (riderNodeOf q j) (q .source) route position place) where
   -- the nearest position, where it can be walked to, is the meeting position
@@ -54,7 +41,7 @@ module _ {network : List ℕ} (q : Request) {route : List ℕ} (j : ℕ) {positi
   -- where the nearest position cannot be walked to, none can
   pub near-stranded : RouteFrom network (q .source) route → place ≡ noDistance → Stranded network q route j
   near-stranded from e position d h walks =
-      absurd (omega (arith, so .least position d h (inl walks), distance-below (from .sound) (node-below route from position h) walks))
+      absurd (omega (arith, so .least position d h (inl walks), walking-bounded (from .sound) (node-below route from position h) walks))
 
 -- f, with another value at j
 put : (ℕ → ℕ) → ℕ → ℕ → ℕ → ℕ

@@ -4,20 +4,15 @@ use native.Mathlib.Omega.{arith}
 use native.Mathlib.Numerals.{add-one}
 use native.Mathlib.Decide.{decLe}
 use mathlib.Core.Path.{_≡_, refl, sym, _∙_}
-use mathlib.Core.Logic.{⊎-elim, inl}
 use mathlib.Core.Bool.{Bool, true, false, cond}
 use mathlib.Core.List.{List}
 use lib.ListN.{length, getD}
 use lib.Dec.{ltb}
 use borrow.Author.Tests.{ltb-true, ltb-false}
 use Rattle.rules.specs.Network.{nodeCount, linkStart, to}
-use Rattle.rules.specs.Walks.{WalkingDistance, HoldsDistance, noDistance}
-use Rattle.rules.specs.Routes.{nodeAt, Meeting, Stranded}
-use Rattle.rules.specs.declared.Request.{Request}
+use Rattle.rules.specs.Walks.{HoldsDistance}
+use Rattle.rules.specs.Routes.{nodeAt}
 use Rattle.rules.proofs.WalkLaws.{holds-distance-unique}
-use Rattle.least.specs.Walking.{EndsBelow}
-use Rattle.least.proofs.Walking.{inside, walk-trip, trip-walk}
-use Rattle.least.proofs.Shortening.{bounded}
 use Rattle.price.specs.Near.{RouteFrom, Near, Sofar, distanceAt, closerOf}
 use Rattle.price.specs.declared.riders.Spot.{Spot}
 use Rattle.price.proofs.RouteLaws.{node-next}

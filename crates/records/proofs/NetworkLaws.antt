@@ -1,5 +1,5 @@
 -- The checks of a network record, test by test in the order of the table. Each number that the code reads comes with what it is read from.
-use Prim.Native.Nat.{ℕ, _+_, _*_, _≤_, _<_}
+use Prim.Native.Nat.{ℕ, _+_, _≤_, _<_}
 use native.Mathlib.Omega.{arith}
 use native.Mathlib.Nat.{add-sub-cancel-left}
 use mathlib.Core.Path.{_≡_, refl, sym, _∙_}

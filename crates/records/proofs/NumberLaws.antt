@@ -5,7 +5,6 @@ use native.Mathlib.Nat.{pow-suc}
 use native.Mathlib.Numerals.{add-one}
 use mathlib.Core.Path.{_≡_, refl}
 use mathlib.Core.List.{List}
-use lib.ListN.{getD}
 use lib.Dec.{lit≤}
 use Rattle.rules.specs.Numbers.{byte, number}
 

@@ -33,7 +33,7 @@ module _ {network : List ℕ} {q : Request} where
   begun (meet d rest has walks f e) = record { leads = meets d has walks refl refl refl; finishes = f; costs = e; S = _; x = _; here = _; rest = _ }
   begun (drive k x w rest s link f e) = record { leads = drives k w s link refl refl; finishes = f; costs = e; S = _; x = _; here = _; rest = _ }
 
-  go-on : {R v step S x c rest : ℕ} {steps : List ℕ} → Step network q R v step S x c → Finish network q S x steps rest → Finish network q R v (step ∷ steps) (c + rest)
+  pub go-on : {R v step S x c rest : ℕ} {steps : List ℕ} → Step network q R v step S x c → Finish network q S x steps rest → Finish network q R v (step ∷ steps) (c + rest)
   go-on {rest = rest} (meets d has walks s x e) f = meet d rest has walks (rw (s, x) at f) (ap (λ (c : ℕ). c + rest) e)
   go-on {x = x} {rest = rest} (drives k w s link r e) f = drive k x w rest s link (rw r at f) (ap (λ (c : ℕ). c + rest) e)
 
@@ -45,7 +45,7 @@ module _ {network : List ℕ} {q : Request} where
   step-same small (drives k _ e link s _) (drives l _ f other t _) = let same : k ≡ l = omega arith in (cc, cc)
 
   module _ (sound : SoundNetwork network) where
-    step-inside : {R v step S x c : ℕ} → Step network q R v step S x c → R < 2 ^ q .count → v < nodeCount network → (S < 2 ^ q .count) × (x < nodeCount network)
+    pub step-inside : {R v step S x c : ℕ} → Step network q R v step S x c → R < 2 ^ q .count → v < nodeCount network → (S < 2 ^ q .count) × (x < nodeCount network)
     step-inside (meets _ _ _ s x _) h g = (omega arith, omega arith)
     step-inside (drives k _ _ link s _) h g = (omega arith, omega (arith, sound .ends k (link .exists)))
 

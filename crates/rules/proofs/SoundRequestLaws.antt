@@ -1,12 +1,12 @@
 -- A request record is accepted exactly when it and its network record are sound.
-use Prim.Native.Nat.{ℕ, zero, suc, _+_, _≤_, _<_}
+use Prim.Native.Nat.{ℕ, zero, suc, _≤_, _<_}
 use native.Mathlib.Omega.{arith}
 use native.Mathlib.Nat.{zero-add}
 use mathlib.Core.Path.{_≡_, _∙_}
 use mathlib.Core.List.{List}
 use lib.ListN.{length, getD}
 use borrow.Author.Tests.{ltb-false, leb-false, le-ltb, lt-ltb, lt-leb, eq-eqb}
-use Rattle.rules.specs.Checks.{firstOf, each}
+use Rattle.rules.specs.Checks.{firstOf}
 use Rattle.rules.specs.Network.{openingChecks, nodeCount, networkChecks, networkVerdict, SoundNetwork}
 use Rattle.rules.specs.Request.{source, target, busWeight, riderCount, riderStart, riderNode, riderWeight, countChecks, riderNodeChecks, nodeChecks, riderWeightChecks, weightChecks, requestChecks, requestVerdict, SoundRequest, sevenPlaces, requestValue, SoundValue}
 use Rattle.rules.specs.declared.Verdict.the-variants.{Accepted}

@@ -1,7 +1,7 @@
 -- The request record: "version byte 1; total length (2); source (2); target (2); bus weight (1); rider count l (1); then l riders: node (2), weight (1)."
 use Prim.Native.Nat.{ℕ, _+_, _*_, _≤_, _<_}
 use mathlib.Core.Path.{_≡_}
-use mathlib.Core.Bool.{Bool, cond}
+use mathlib.Core.Bool.{cond}
 use mathlib.Core.List.{List, [], _∷_, _++_, map}
 use lib.ListN.{length, getD}
 use lib.Dec.{ltb, leb}

@@ -1,15 +1,13 @@
 -- The filled rooms, and the answer that they give.
-use Prim.Native.Nat.{ℕ, _+_, _-_, _*_, _/_, _%_, _^_, _≤_, _<_}
+use Prim.Native.Nat.{ℕ, _/_, _%_, _^_, _<_}
 use native.Mathlib.Omega.{arith}
-use mathlib.Core.Path.{_≡_, refl, sym, _∙_, ap}
+use mathlib.Core.Path.{_≡_, refl}
 use mathlib.Core.Logic.{⊎-elim, _≢_}
 use mathlib.Core.List.{List}
-use lib.ListN.{length}
 use lib.Pow.{pow-pos}
 use Rattle.rules.specs.Checks.{refuse}
-use Rattle.rules.specs.Network.{nodeCount}
 use Rattle.rules.specs.Plans.{allRiders, NoPlan}
-use Rattle.rules.specs.Rooms.{noFinish, Distances, Table, tablePlaces, stepPlaces}
+use Rattle.rules.specs.Rooms.{noFinish, Distances, Table}
 use Rattle.rules.specs.Answers.{Searching, hopeless, planned}
 use Rattle.rules.specs.declared.Request.{Request}
 use Rattle.rules.specs.declared.Verdict.the-variants.{Accepted}

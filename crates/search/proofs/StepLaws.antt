@@ -2,22 +2,20 @@
 use Prim.Native.Nat.{ℕ, zero, suc, _+_, _-_, _*_, _^_, _≤_, _<_}
 use native.Mathlib.Omega.{arith}
 use native.Mathlib.Decide.{ℕ-discrete, decLt}
-use mathlib.Core.Path.{_≡_, refl, sym, _∙_, ap}
+use mathlib.Core.Path.{_≡_, refl, sym, _∙_}
 use mathlib.Core.Logic.{_≢_}
 use mathlib.Core.Bool.{Bool, true, false}
-use mathlib.Core.List.{List, [], _∷_, _++_}
-use lib.ListN.{length, getD, set, take, drop, length-set}
-use lib.Seq.{take-suc-set, drop-set-lt, length-take-le, drop-drop}
+use mathlib.Core.List.{List}
+use lib.ListN.{length, getD, set}
 use lib.Dec.{eqb}
 use borrow.Author.Tests.{eq-eqb, ne-eqb, eqb-true, eqb-false}
 use lib.Count.{ones, onesIn, trailingZeros}
-use native.Mathlib.Numerals.{add-one}
 use Rattle.rules.specs.Network.{SoundNetwork, nodeCount, linkCount, to}
 use Rattle.rules.specs.Request.{riderWeightOf}
-use Rattle.rules.specs.Plans.{Has, without, allRiders}
+use Rattle.rules.specs.Plans.{Has, without}
 use Rattle.rules.specs.declared.Request.{Request}
 use Rattle.finish.specs.Sets.{Lowest}
-use Rattle.finish.proofs.Sets.{none-has, has-le, has-below, ones-without, without-others, without-less, lowest-rider}
+use Rattle.finish.proofs.Sets.{has-below, ones-without, without-others, lowest-rider}
 use Rattle.right.specs.Reading.{Tight, Step, meets, drives}
 use Rattle.right.proofs.Reading.{some-tight}
 use Rattle.table.specs.Filling.{meetingStep}

@@ -1,16 +1,15 @@
 -- Which steps are tight, by the numbers that the code compares.
-use Prim.Native.Nat.{ℕ, suc, _+_, _-_, _*_, _^_, _≤_, _<_}
+use Prim.Native.Nat.{ℕ, _+_, _*_, _≤_, _<_}
 use native.Mathlib.Omega.{arith}
 use native.Mathlib.Decide.{ℕ-discrete, decLt}
-use mathlib.Core.Path.{_≡_, refl, sym, _∙_, ap}
-use mathlib.Core.Logic.{⊎-elim, inl, _≢_}
-use mathlib.Core.Bool.{Bool, true, false}
+use mathlib.Core.Path.{_≡_, refl, _∙_}
+use mathlib.Core.Logic.{⊎-elim, inl}
 use mathlib.Core.List.{List}
-use lib.ListN.{length, getD}
+use lib.ListN.{getD}
 use borrow.Author.Tests.{eq-eqb, ne-eqb, le-leb, lt-leb}
 use Rattle.rules.specs.Network.{nodeCount, linkCount, from, to, drive, closed}
 use Rattle.rules.specs.Request.{riderNodeOf, riderWeightOf}
-use Rattle.rules.specs.Walks.{WalkingDistance, HoldsDistance, noDistance}
+use Rattle.rules.specs.Walks.{HoldsDistance, noDistance}
 use Rattle.rules.specs.Plans.{Has, without}
 use Rattle.rules.specs.Rooms.{noFinish}
 use Rattle.rules.specs.declared.Request.{Request}
@@ -21,7 +20,7 @@ use Rattle.finish.proofs.Bounds.{walking-bounded}
 use Rattle.right.specs.Reading.{Step, meets, drives, Tight}
 use Rattle.table.specs.Filling.{meetingStep}
 use Rattle.table.proofs.StartLaws.{cannot-meet, can-meet}
-use Rattle.search.specs.Known.{Known, Stands, valueAt, drivingStep}
+use Rattle.search.specs.Known.{Stands, valueAt, drivingStep}
 
 -- what a drive from v takes
 pub not-driven : (network : List ℕ) (weight v k : ℕ) → (from network k ≡ v → ⊥) → noFinish ≡ drivingStep network weight v k

@@ -1,5 +1,5 @@
 -- The tablet's answers, in the order of its checks.
-use Prim.Native.Nat.{ℕ, _+_, _%_, _/_, _^_, _≤_, _<_}
+use Prim.Native.Nat.{ℕ, _%_, _/_, _<_}
 use mathlib.Core.Path.{_≡_, refl, sym, _∙_}
 use mathlib.Core.List.{List, []}
 use lib.ListN.{length}
@@ -13,7 +13,7 @@ use Rattle.rules.specs.declared.Verdict.{Verdict}
 use Rattle.rules.specs.declared.Verdict.the-variants.{Accepted, Refused as NotAccepted}
 use Rattle.rules.specs.declared.Priced.{Priced}
 use Rattle.rules.specs.declared.Priced.the-variants.{Refused as NotPriced}
-use Rattle.rules.proofs.Order.{given, passed, front-refused, front-passed}
+use Rattle.rules.proofs.Order.{passed, front-refused, front-passed}
 use Rattle.price.proofs.RouteLaws.{route-32}
 use Rattle.tablet.specs.Answer.{Answered}
 use Rattle.tablet.proofs.RouteLaws.{route-size}

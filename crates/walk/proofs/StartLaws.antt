@@ -1,9 +1,9 @@
 -- The room before the first round: 0 at the start, none everywhere else.
-use Prim.Native.Nat.{ℕ, _+_, _<_, _≤_}
+use Prim.Native.Nat.{ℕ, _<_, _≤_}
 use native.Mathlib.Omega.{arith}
 use native.Mathlib.Decide.{ℕ-discrete}
-use mathlib.Core.Path.{_≡_, refl, sym, _∙_}
-use mathlib.Core.List.{List, _++_}
+use mathlib.Core.Path.{_≡_, _∙_}
+use mathlib.Core.List.{List}
 use lib.ListN.{length, getD, set, drop, replicate, length-set, length-append, length-drop, length-replicate, List·getD-append, getD-replicate}
 use lib.Seq.{getD-set-same, getD-set-other, drop-set-lt, drop-at}
 use Rattle.rules.specs.Network.{SoundNetwork, nodeCount}
@@ -12,9 +12,9 @@ use Rattle.rules.specs.Rooms.{Kept}
 use Rattle.least.specs.Trips.{At}
 use Rattle.least.specs.Least.{Least}
 use Rattle.least.specs.Spread.{Spread}
-use Rattle.least.specs.Walking.{EndsBelow, WalkBack}
+use Rattle.least.specs.Walking.{WalkBack}
 use Rattle.least.proofs.Trips.{compose}
-use Rattle.least.proofs.Walking.{inside, distance}
+use Rattle.least.proofs.Walking.{ends-below, inside, distance}
 use Rattle.walk.specs.Row.{Row, cleared}
 
 pub cleared-size : (n : ℕ) (before : List ℕ) → n ≤ length before → length (cleared n before) ≡ length before
@@ -47,7 +47,7 @@ module _ (n start : ℕ) (before : List ℕ) (fits : n ≤ length before) (below
 -- what the engine makes of it are the walking distances
 pub walked : {network : List ℕ} {start : ℕ} {before after : List ℕ} → SoundNetwork network → start < nodeCount network → nodeCount network ≤ length before → Spread noDistance (nodeCount network) (WalkBack network) (set (cleared (nodeCount network) before) start 0) after → Row network start before after
 walked {network} {start} {before} sound below fits spread =
-    let ends : EndsBelow (nodeCount network) network = λ k h. (sound .starts k h, sound .ends k h) in
+    let ends = ends-below sound in
     let first = start-kept (nodeCount network) start before fits below in
     record {
       holds = λ v h. distance ends (sound .nodes) h (compose (inside ends) (starts-least (nodeCount network) start before fits below) v h (spread .least v h));

@@ -1,4 +1,3 @@
-use native.Mathlib.Omega.{arith}
 use Rattle.search.proofs.StepLaws.{behind-eqb, too-small}
 use Rattle.search.proofs.steps.makes_up.Statement.{statement}
 use Rattle.search.proofs.steps.makes_up.Tie as tie

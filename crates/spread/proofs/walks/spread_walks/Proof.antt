@@ -1,4 +1,4 @@
-use Rattle.least.proofs.Walking.{inside}
+use Rattle.least.proofs.Walking.{ends-below, inside}
 use Rattle.spread.specs.Walking.{WalkLink}
 use native.Mathlib.Omega.{arith}
 use mathlib.Core.Path.{refl}
@@ -34,7 +34,7 @@ returns : tie.Need-returns Inv-loop μ-loop
 returns c =
     let lent = c .before .before .before .before .before .before .before .before .pre in
     let (same, relaxed) = c .before .before .before .walk-round .ensures .quiet (c .if1 .left) in
-    spreads {Link = WalkLink _} (inside (λ k h. (lent .sound .starts k h, lent .sound .ends k h))) (lent .places)
+    spreads {Link = WalkLink _} (inside (ends-below (lent .sound))) (lent .places)
     (λ u h. omega (arith, c .before .before .before .before .before .before .slice-known .given u)) (relaxing-then (c .before .before .before .before .before .loop .inv) (c .before .before .before .walk-round .ensures .relaxing))
     (λ k u v w link. relaxed k (link .exists) u v w link)
 
