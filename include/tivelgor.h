@@ -6,10 +6,10 @@
  * the parts is read or written, nothing is kept after the call, and there is no input of any length or content that
  * makes a call fail otherwise than by its result.
  *
- * A result below 2^63 is what was asked for. A refusal is 2^63 + 65,536 * place + number; the tablet's is 2^63 + number,
- * without the place. The numbers 1 to 6 refuse the network record, 11 to 17 the request record. The place is that of the
- * bad link, of the bad node (0 source, 1 target, 2 + j rider j) or of the bad weight (0 bus, 1 + j rider j), and 0 where
- * there is none to name. A refusal leaves every part as it was, except 24 (see there).
+ * A result below 2^63 is what was asked for. A refusal is 2^63 + 65,536 * place + number; the tablet's is 2^63 +
+ * number, without the place. The numbers 1 to 6 refuse the network record, 11 to 17 the request record. The place is
+ * that of the bad link, of the bad node (0 source, 1 target, 2 + j rider j) or of the bad weight (0 bus, 1 + j rider
+ * j), and 0 where there is none to name. A refusal leaves every part as it was, except 24 (see there).
  */
 #ifndef TIVELGOR_H
 #define TIVELGOR_H
@@ -67,7 +67,8 @@ uint64_t tivelgor_request(const uint8_t *network, size_t network_length,
  *   start      the node
  *   distances  needs n places: place v becomes the distance from start to v, or 4,294,967,295 if there is no walk
  *
- * Gives 0; or a refusal 1 to 6, 41 for a start of n or more, 42 for fewer than n places. Later places keep their values.
+ * Gives 0; or a refusal 1 to 6, 41 for a start of n or more, 42 for fewer than n places. Later places keep their
+ * values.
  */
 uint64_t tivelgor_walk(const uint8_t *network, size_t network_length,
                        size_t start,
@@ -100,8 +101,8 @@ uint64_t tivelgor_price(const uint8_t *network, size_t network_length,
  *                     is met here" and 8 + k for "drive link k"
  *
  * Gives 4,096 * cost + the number of steps; or a refusal 1 to 6 or 11 to 17, 21, 22 or 23 for too few places for
- * distances, table or steps, or 24 if there is no plan. 24 leaves distances and table filled, and steps as it was. Later
- * places keep their values.
+ * distances, table or steps, or 24 if there is no plan. 24 leaves distances and table filled, and steps as it was.
+ * Later places keep their values.
  */
 uint64_t tivelgor_search(const uint8_t *network, size_t network_length,
                          const uint8_t *request, size_t request_length,

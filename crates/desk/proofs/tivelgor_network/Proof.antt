@@ -1,7 +1,7 @@
 use native.Mathlib.Omega.{arith}
 use mathlib.Core.Path.{_∙_, ap}
 use Rattle.desk.specs.Numbers.{networkNumber}
-use Rattle.desk.proofs.Numbers.{accepted-tells, refused-tells, network-place, network-sizes}
+use Rattle.desk.proofs.Numbers.{accepted-tells, refused-tells, network-refusal, network-sizes}
 use borrow.Author.Needs.{needs}
 use Rattle.desk.proofs.tivelgor_network.Statement.{statement}
 use Rattle.desk.proofs.tivelgor_network.Tie as tie
@@ -29,7 +29,7 @@ returns : tie.Need-returns
 returns c = accepted-tells _ (c .enum-told .given .1) ∙ ap networkNumber (c .before .before .read-network .ensures)
 
 refusal-number-requires : tie.Need-refusal-number-requires
-refusal-number-requires c κs = network-place _ (c .before .before .before .read-network .ensures) _ (c .before .verdict .given .1)
+refusal-number-requires c κs = network-refusal _ (c .before .before .before .read-network .ensures) _ (c .before .verdict .given .1) .place
 
 returns-2 : tie.Need-returns-2
 returns-2 c = c .refusal-number .ensures ∙ refused-tells _ (c .before .before .verdict .given .1) ∙ ap networkNumber (c .before .before .before .before .read-network .ensures)

@@ -2,7 +2,7 @@ use native.Mathlib.Omega.{arith}
 use Prim.Native.Nat.{ℕ}
 use mathlib.Core.Path.{_≡_, sym, _∙_, ap}
 use Rattle.desk.specs.Numbers.{pricedNumber}
-use Rattle.desk.proofs.Numbers.{price-place}
+use Rattle.desk.proofs.Numbers.{price-refusal}
 use borrow.Author.Needs.{needs}
 use Rattle.desk.proofs.tivelgor_price.Statement.{statement}
 use Rattle.desk.proofs.tivelgor_price.Tie as tie
@@ -30,10 +30,10 @@ same-length : tie.Need-same-length
 same-length c = search needs
 
 returns : tie.Need-returns
-returns c = (let z : _≡_ {A = ℕ} 0 1 = cc (c .before .before .before .answer2 .given .1, c .enum-told .given .1) in absurd (omega arith))
+returns c = (let z : _≡_ {A = ℕ} 0 1 = cc (c .before .before .before .answer2 .given .1) in absurd (omega arith))
 
 refusal-number-requires : tie.Need-refusal-number-requires
-refusal-number-requires c κs = price-place (c .before .before .before .before .before .before .before .before .price .ensures) _ (c .before .before .before .before .answer2 .given .1 ∙ c .before .answer3 .given .1)
+refusal-number-requires c κs = price-refusal (c .before .before .before .before .before .before .before .before .price .ensures) _ (c .before .before .before .before .answer2 .given .1 ∙ c .before .answer3 .given .1) .place
 
 same-length-2 : tie.Need-same-length-2
 same-length-2 c = search needs

@@ -2,7 +2,7 @@ use native.Mathlib.Omega.{arith}
 use Prim.Native.Nat.{ℕ}
 use mathlib.Core.Path.{_≡_, sym, _∙_, ap}
 use Rattle.desk.specs.Numbers.{plannedNumber}
-use Rattle.desk.proofs.Numbers.{plan-place, plan-small}
+use Rattle.desk.proofs.Numbers.{plan-refusal, plan-small}
 use borrow.Author.Needs.{needs}
 use Rattle.desk.proofs.tivelgor_search.Statement.{statement}
 use Rattle.desk.proofs.tivelgor_search.Tie as tie
@@ -36,10 +36,10 @@ same-length-3 : tie.Need-same-length-3
 same-length-3 c = search needs
 
 returns : tie.Need-returns
-returns c = (let z : _≡_ {A = ℕ} 0 1 = cc (c .before .before .before .answer2 .given .1, c .enum-told .given .1) in absurd (omega arith))
+returns c = (let z : _≡_ {A = ℕ} 0 1 = cc (c .before .before .before .answer2 .given .1) in absurd (omega arith))
 
 refusal-number-requires : tie.Need-refusal-number-requires
-refusal-number-requires c κs = plan-place _ (c .before .before .before .before .before .before .before .before .before .before .before .before .search .ensures) _ (c .before .before .before .before .answer2 .given .1 ∙ c .before .answer3 .given .1)
+refusal-number-requires c κs = plan-refusal _ (c .before .before .before .before .before .before .before .before .before .before .before .before .search .ensures) _ (c .before .before .before .before .answer2 .given .1 ∙ c .before .answer3 .given .1) .place
 
 same-length-4 : tie.Need-same-length-4
 same-length-4 c = search needs

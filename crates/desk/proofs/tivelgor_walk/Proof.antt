@@ -1,5 +1,5 @@
 use mathlib.Core.Path.{_∙_}
-use Rattle.desk.proofs.Numbers.{accepted-tells, refused-tells, walk-place}
+use Rattle.desk.proofs.Numbers.{accepted-tells, refused-tells, walk-refusal}
 use borrow.Author.Needs.{needs}
 use Rattle.desk.proofs.tivelgor_walk.Statement.{statement}
 use Rattle.desk.proofs.tivelgor_walk.Tie as tie
@@ -24,7 +24,7 @@ returns : tie.Need-returns
 returns c = record { answer = _; walked = c .before .before .before .before .walk .ensures; tells = accepted-tells 0 (c .enum-told .given .1) }
 
 refusal-number-requires : tie.Need-refusal-number-requires
-refusal-number-requires c κs = walk-place (c .before .before .before .before .before .walk .ensures) _ (c .before .verdict .given .1)
+refusal-number-requires c κs = walk-refusal (c .before .before .before .before .before .walk .ensures) _ (c .before .verdict .given .1) .place
 
 same-length-2 : tie.Need-same-length-2
 same-length-2 c = search needs
