@@ -4,7 +4,7 @@
 #include "../town.h"
 #include "tivelgor.h"
 
-/* The room that 5 corners and 1 rider need: l * n distances, 2^l * n places of the table, l + (l + 1) * (n - 1) steps. */
+/* The room that n = 5 corners and l = 1 rider need: l * n distances, 2^l * n finishes, l + (l + 1) * (n - 1) steps. */
 enum { corners = 5, riders = 1, finishes = 2 * corners, most_steps = riders + (riders + 1) * (corners - 1) };
 
 /* Says what was refused and gives 0, or gives 1. */
