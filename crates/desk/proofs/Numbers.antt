@@ -1,0 +1,142 @@
+-- What each answer's number is made of is small enough for 64 bits, and a value's number is below 2^63.
+use Prim.Native.Nat.{ℕ, zero, suc, _+_, _*_, _^_, _≤_, _<_}
+use native.Mathlib.Omega.{arith}
+use native.Mathlib.Nat.{mul-le-mul}
+use mathlib.Core.Path.{_≡_, refl, sym, _∙_, ap}
+use mathlib.Core.List.{List}
+use lib.ListN.{length}
+use Rattle.rules.specs.Checks.{refuse, firstOf}
+use Rattle.rules.specs.Network.{nodeCount, networkVerdict, networkOf, SoundNetwork}
+use Rattle.rules.specs.Request.{recordChecks, requestVerdict, requestOf, requestValue, SoundValue}
+use Rattle.rules.specs.Answers.{Walked, Pricing, refused, stranded, priced, PricedRoute, Lent, Searching, hopeless, planned, Searched}
+use Rattle.rules.specs.declared.Refusal.{Refusal}
+use Rattle.rules.specs.declared.NetworkRead.{NetworkRead}
+use Rattle.rules.specs.declared.RequestRead.{RequestRead}
+use Rattle.rules.specs.declared.Verdict.{Verdict}
+use Rattle.rules.specs.declared.Verdict.the-variants.{Accepted, Refused as NotAccepted}
+use Rattle.rules.specs.declared.Priced.{Priced}
+use Rattle.rules.specs.declared.Priced.the-variants.{Price as Costs, Refused as NotPriced}
+use Rattle.rules.specs.declared.Planned.{Planned}
+use Rattle.rules.specs.declared.Planned.the-variants.{Plan as Found, Refused as NotPlanned}
+use Rattle.rules.proofs.Order.{accepted-head, accepted-front, accepted-rest}
+use Rattle.rules.proofs.SoundNetworkLaws.{network-sound}
+use Rattle.rules.proofs.SoundRequestLaws.{records-sound, value-sound}
+use Rattle.finish.proofs.Bounds.{right-plan-bounded}
+use Rattle.desk.specs.Numbers.{refusalNumber, verdictNumber}
+use Rattle.desk.proofs.Prices.{mostPrice, price-bounded}
+use Rattle.desk.proofs.Places.{Small, same-small, network-near, records-near, walk-near, price-near, search-near}
+
+-- ---- a verdict's number
+pub accepted-tells : {verdict : Verdict} (value : ℕ) → verdict ≡ Accepted → value ≡ verdictNumber verdict value
+accepted-tells value told = rw told
+
+pub refused-tells : {verdict : Verdict} (value : ℕ) {r : Refusal} → verdict ≡ NotAccepted r → refusalNumber r ≡ verdictNumber verdict value
+refused-tells value told = rw told
+
+never : {r : Refusal} → Accepted ≡ NotAccepted r → Small r
+never e = let z : _≡_ {A = ℕ} 0 1 = cc in absurd (omega arith)
+
+-- ---- reading
+module _ (s : List ℕ) {read : NetworkRead} (is : read ≡ networkOf s) where
+  pub network-refusal : (r : Refusal) → read .verdict ≡ NotAccepted r → Small r
+  unfolding networkOf networkVerdict
+  network-refusal r told = network-near s .small r (rw is at told)
+
+  pub network-sizes : read .verdict ≡ Accepted → (read .n ≤ 512) × (read .m ≤ 2048)
+  unfolding networkOf
+  network-sizes told =
+      let accepted : networkVerdict s ≡ Accepted = rw is at told in
+      let sound = network-sound s accepted in
+      rw (is, accepted) (sound .nodes, sound .links)
+
+module _ (network s : List ℕ) {read : RequestRead} (is : read ≡ requestOf network s) where
+  pub request-refusal : (r : Refusal) → read .verdict ≡ NotAccepted r → Small r
+  unfolding requestOf requestVerdict
+  request-refusal r told = records-near network s .small r (rw is at told)
+
+-- ---- walking
+pub walk-refusal : {network : List ℕ} {start : ℕ} {before after : List ℕ} {answer : Verdict} → Walked network start before after answer → (r : Refusal) → answer ≡ NotAccepted r → Small r
+walk-refusal {network} {start} {before} walked r told =
+    walk-near network start (length before) .small r (sym (walked .answers) ∙ told)
+
+-- ---- both records, once the checks of an entry are all passed
+module _ (network request : List ℕ) where
+  both-sound : requestVerdict network request ≡ Accepted → SoundNetwork network × SoundValue (nodeCount network) (requestValue request)
+  both-sound e = let (a, b) = records-sound network request e in (a, value-sound _ request b)
+
+-- ---- pricing
+verdictPriced : Priced → Verdict
+verdictPriced (Costs price) = Accepted
+verdictPriced (NotPriced r) = NotAccepted r
+
+pub price-refusal : {network request route before after : List ℕ} {answer : Priced} → PricedRoute network request route before after answer → (r : Refusal) → answer ≡ NotPriced r → Small r
+unfolding verdictPriced requestVerdict
+price-refusal {network} {request} {route} {before} so r told = elim (so .pricing) [
+  | refused x v e m ↦ same-small (price-near network request route (length before) .small x v) (ap verdictPriced (sym e ∙ told))
+  | stranded j v h s l e m ↦ (
+      let riders = both-sound network request (accepted-front (recordChecks network request) _ v) .1 .riders in
+      same-small {x = refuse 37 j} (record { place = omega arith; number = omega arith }) (ap verdictPriced (sym e ∙ told))
+      )
+  | priced p v c z e ↦ never (ap verdictPriced (sym e ∙ told))
+]
+
+pricePriced : Priced → ℕ
+pricePriced (Costs price) = price
+pricePriced (NotPriced r) = 0
+
+pub price-small : {network request route before after : List ℕ} {answer : Priced} {price : ℕ} → PricedRoute network request route before after answer → answer ≡ Costs price → price ≤ mostPrice
+unfolding pricePriced requestVerdict
+price-small {network} {request} {price = price} so told = elim (so .pricing) [
+  | refused x v e m ↦ (let same : 0 ≡ price = ap pricePriced (sym e ∙ told) in omega arith)
+  | stranded j v h s l e m ↦ (let same : 0 ≡ price = ap pricePriced (sym e ∙ told) in omega arith)
+  | priced p v c z e ↦ (
+      let same : p ≡ price = ap pricePriced (sym e ∙ told) in
+      let (sound, value) = both-sound network request (accepted-front (recordChecks network request) _ v) in
+      let passes = accepted-head _ _ (accepted-rest (recordChecks network request) _ v) .1 in
+      omega (arith, price-bounded sound value passes c)
+      )
+]
+
+-- ---- the search
+verdictPlanned : Planned → Verdict
+verdictPlanned (Found cost steps) = Accepted
+verdictPlanned (NotPlanned r) = NotAccepted r
+
+costPlanned : Planned → ℕ
+costPlanned (Found cost steps) = cost
+costPlanned (NotPlanned r) = 0
+
+stepsPlanned : Planned → ℕ
+stepsPlanned (Found cost steps) = steps
+stepsPlanned (NotPlanned r) = 0
+
+module _ {network : List ℕ} (request : List ℕ) {before after : Lent} {answer : Planned} (so : Searched network request before after answer) where
+  pub plan-refusal : (r : Refusal) → answer ≡ NotPlanned r → Small r
+  unfolding verdictPlanned
+  plan-refusal r told = elim so [
+    | refused x v e m ↦ same-small (search-near network request _ _ _ .small x v) (ap verdictPlanned (sym e ∙ told))
+    | hopeless v d t n e s ↦ same-small {x = refuse 24 0} (record { place = omega arith; number = omega arith }) (ap verdictPlanned (sym e ∙ told))
+    | planned plan cost v d t right e w ↦ never (ap verdictPlanned (sym e ∙ told))
+  ]
+
+  pub plan-small : {cost steps : ℕ} → answer ≡ Found cost steps → (cost ≤ 50231811000) × (steps ≤ 4095)
+  unfolding costPlanned stepsPlanned requestVerdict
+  plan-small {cost} {steps} told = elim so [
+    | refused x v e m ↦ (
+        let c : 0 ≡ cost = ap costPlanned (sym e ∙ told) in
+        let s : 0 ≡ steps = ap stepsPlanned (sym e ∙ told) in
+        (omega arith, omega arith)
+        )
+    | hopeless v d t n e w ↦ (
+        let c : 0 ≡ cost = ap costPlanned (sym e ∙ told) in
+        let s : 0 ≡ steps = ap stepsPlanned (sym e ∙ told) in
+        (omega arith, omega arith)
+        )
+    | planned plan p v d t right e w ↦ (
+        let (sound, value) = both-sound network request (accepted-front (recordChecks network request) _ v) in
+        let b = right-plan-bounded sound value right in
+        let c : p ≡ cost = ap costPlanned (sym e ∙ told) in
+        let s : length plan ≡ steps = ap stepsPlanned (sym e ∙ told) in
+        (omega arith, omega arith)
+        )
+  ]

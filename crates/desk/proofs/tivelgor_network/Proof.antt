@@ -1,0 +1,48 @@
+use native.Mathlib.Omega.{arith}
+use mathlib.Core.Path.{_∙_, ap}
+use Rattle.desk.specs.Numbers.{networkNumber}
+use Rattle.desk.proofs.Numbers.{accepted-tells, refused-tells, network-refusal, network-sizes}
+use borrow.Author.Needs.{needs}
+use Rattle.desk.proofs.tivelgor_network.Statement.{statement}
+use Rattle.desk.proofs.tivelgor_network.Tie as tie
+use Rattle.desk.proofs.tivelgor_network.Reads as reads
+use Rattle.desk.proofs.tivelgor_network.Lts as lts
+use Rattle.desk.proofs.refusal_number.Reads as refusal-number-reads
+use Rattle.records.proofs.read_network.Reads as read-network-reads
+
+read-network-requires : tie.Need-read-network-requires
+read-network-requires c κs = search needs
+
+enum-known-verdict : tie.Need-enum-known-verdict
+enum-known-verdict c = search needs
+
+enum-told : tie.Need-enum-told
+enum-told c = search needs
+
+mul-result : tie.Need-mul-result
+mul-result c = omega (arith, network-sizes _ (c .before .before .read-network .ensures) (c .enum-told .given .1))
+
+add-result : tie.Need-add-result
+add-result c = omega (arith, network-sizes _ (c .before .before .read-network .ensures) (c .enum-told .given .1))
+
+returns : tie.Need-returns
+returns c = accepted-tells _ (c .enum-told .given .1) ∙ ap networkNumber (c .before .before .read-network .ensures)
+
+refusal-number-requires : tie.Need-refusal-number-requires
+refusal-number-requires c κs = network-refusal _ (c .before .before .before .read-network .ensures) _ (c .before .verdict .given .1) .place
+
+returns-2 : tie.Need-returns-2
+returns-2 c = c .refusal-number .ensures ∙ refused-tells _ (c .before .before .verdict .given .1) ∙ ap networkNumber (c .before .before .before .before .read-network .ensures)
+
+pub tivelgor-network-spec : {M : Type 1} → statement M
+tivelgor-network-spec =
+    tie.close
+    (tie.spec
+    read-network-requires
+    enum-known-verdict
+    enum-told
+    mul-result
+    add-result
+    returns
+    refusal-number-requires
+    returns-2)

@@ -1,0 +1,65 @@
+use native.Mathlib.Omega.{arith}
+use Prim.Native.Nat.{ℕ}
+use mathlib.Core.Path.{_≡_, sym, _∙_, ap}
+use Rattle.desk.specs.Numbers.{pricedNumber}
+use Rattle.desk.proofs.Numbers.{price-refusal}
+use borrow.Author.Needs.{needs}
+use Rattle.desk.proofs.tivelgor_price.Statement.{statement}
+use Rattle.desk.proofs.tivelgor_price.Tie as tie
+use Rattle.desk.proofs.tivelgor_price.Reads as reads
+use Rattle.desk.proofs.tivelgor_price.Lts as lts
+use Rattle.desk.proofs.refusal_number.Reads as refusal-number-reads
+use Rattle.price.proofs.price.Reads as price-reads
+
+price-requires : tie.Need-price-requires
+price-requires c κs = search needs
+
+enum-known-answer : tie.Need-enum-known-answer
+enum-known-answer c = search needs
+
+enum-known-answer-2 : tie.Need-enum-known-answer-2
+enum-known-answer-2 c = search needs
+
+enum-known-answer-3 : tie.Need-enum-known-answer-3
+enum-known-answer-3 c = search needs
+
+enum-told : tie.Need-enum-told
+enum-told c = search needs
+
+same-length : tie.Need-same-length
+same-length c = search needs
+
+returns : tie.Need-returns
+returns c = (let z : _≡_ {A = ℕ} 0 1 = cc (c .before .before .before .answer2 .given .1) in absurd (omega arith))
+
+refusal-number-requires : tie.Need-refusal-number-requires
+refusal-number-requires c κs = price-refusal (c .before .before .before .before .before .before .before .before .price .ensures) _ (c .before .before .before .before .answer2 .given .1 ∙ c .before .answer3 .given .1) .place
+
+same-length-2 : tie.Need-same-length-2
+same-length-2 c = search needs
+
+returns-2 : tie.Need-returns-2
+returns-2 c = record { answer = _; priced = c .before .before .before .before .before .before .before .before .before .price .ensures; tells = c .refusal-number .ensures ∙ sym (ap pricedNumber (c .before .before .before .before .before .answer2 .given .1 ∙ c .before .before .answer3 .given .1)) }
+
+same-length-3 : tie.Need-same-length-3
+same-length-3 c = search needs
+
+returns-3 : tie.Need-returns-3
+returns-3 c = record { answer = _; priced = c .before .before .before .before .before .price .ensures; tells = sym (ap pricedNumber (c .before .answer .given .1)) }
+
+pub tivelgor-price-spec : {M : Type 1} → statement M
+tivelgor-price-spec =
+    tie.close
+    (tie.spec
+    price-requires
+    enum-known-answer
+    enum-known-answer-2
+    enum-known-answer-3
+    enum-told
+    same-length
+    returns
+    refusal-number-requires
+    same-length-2
+    returns-2
+    same-length-3
+    returns-3)

@@ -1,0 +1,39 @@
+use mathlib.Core.Path.{_∙_, ap}
+use Rattle.desk.specs.Numbers.{requestNumber}
+use Rattle.desk.proofs.Numbers.{accepted-tells, refused-tells, request-refusal}
+use borrow.Author.Needs.{needs}
+use Rattle.desk.proofs.tivelgor_request.Statement.{statement}
+use Rattle.desk.proofs.tivelgor_request.Tie as tie
+use Rattle.desk.proofs.tivelgor_request.Reads as reads
+use Rattle.desk.proofs.tivelgor_request.Lts as lts
+use Rattle.desk.proofs.refusal_number.Reads as refusal-number-reads
+use Rattle.records.proofs.read_request.Reads as read-request-reads
+
+read-request-requires : tie.Need-read-request-requires
+read-request-requires c κs = search needs
+
+enum-known-verdict : tie.Need-enum-known-verdict
+enum-known-verdict c = search needs
+
+enum-told : tie.Need-enum-told
+enum-told c = search needs
+
+returns : tie.Need-returns
+returns c = accepted-tells _ (c .before .enum-told .given .1) ∙ ap requestNumber (c .before .before .before .read-request .ensures)
+
+refusal-number-requires : tie.Need-refusal-number-requires
+refusal-number-requires c κs = request-refusal _ _ (c .before .before .before .read-request .ensures) _ (c .before .verdict .given .1) .place
+
+returns-2 : tie.Need-returns-2
+returns-2 c = c .refusal-number .ensures ∙ refused-tells _ (c .before .before .verdict .given .1) ∙ ap requestNumber (c .before .before .before .before .read-request .ensures)
+
+pub tivelgor-request-spec : {M : Type 1} → statement M
+tivelgor-request-spec =
+    tie.close
+    (tie.spec
+    read-request-requires
+    enum-known-verdict
+    enum-told
+    returns
+    refusal-number-requires
+    returns-2)

@@ -1,0 +1,105 @@
+// The library for host programs at a desk: reading, walking, pricing and the search, each with one number for its
+// answer. Below 2^63 it is the value; a refusal is 2^63 + 65,536 × place + number.
+use price::price;
+use records::read_network;
+use records::read_request;
+use rules::Planned;
+use rules::Priced;
+use rules::Refusal;
+use rules::Verdict;
+use search::search;
+use walk::walk;
+ghost use Prim.Native.Nat.{_<_};
+ghost use mathlib.Core.Path.{_≡_};
+ghost use Rattle.rules.specs.Network.{networkOf};
+ghost use Rattle.rules.specs.Request.{requestOf};
+ghost use Rattle.search.specs.Rooms.{lent};
+ghost use Rattle.desk.specs.Numbers.{refusalNumber, networkNumber, requestNumber, WalkTold, PriceTold, PlanTold};
+
+// Reads a network record: 65,536 × n + m, or its refusal.
+#[no_mangle]
+pub extern "C" fn tivelgor_network(network: &[u8]) -> u64
+    ensures { λ r. ⌜ r ≡ networkNumber (networkOf (now (network .entry))) ⌝ }
+{
+    let read = read_network(network);
+    let verdict = read.verdict;
+    let Verdict::Refused(r) = verdict else {
+        return 65536 * read.n as u64 + read.m as u64;
+    };
+    refusal_number(r)
+}
+
+// Reads a request record for a network record: its number of riders, or the refusal of the two.
+#[no_mangle]
+pub extern "C" fn tivelgor_request(network: &[u8], request: &[u8]) -> u64
+    ensures { λ r. ⌜ r ≡ requestNumber (requestOf (now (network .entry)) (now (request .entry))) ⌝ }
+{
+    let read = read_request(network, request);
+    let verdict = read.verdict;
+    let Verdict::Refused(r) = verdict else {
+        let q = read.request;
+        return q.count as u64;
+    };
+    refusal_number(r)
+}
+
+// Fills the first n places of `distances` with the walking distances from `start`: 0, or its refusal.
+#[no_mangle]
+pub extern "C" fn tivelgor_walk(network: &[u8], start: usize, distances: &mut [u32]) -> u64
+    ensures { λ r. ⌜ WalkTold (now (network .entry)) start (now (distances .entry)) (now (distances .exit)) r ⌝ }
+{
+    let verdict = walk(network, start, distances);
+    let Verdict::Refused(r) = verdict else {
+        return 0;
+    };
+    refusal_number(r)
+}
+
+// Prices a route of link numbers and writes the meeting positions: the price, or its refusal.
+#[no_mangle]
+pub extern "C" fn tivelgor_price(
+    network: &[u8],
+    request: &[u8],
+    route: &[u16],
+    meeting: &mut [u16],
+) -> u64
+    ensures { λ r. ⌜ PriceTold (now (network .entry)) (now (request .entry)) (now (route .entry)) (now (meeting .entry)) (now (meeting .exit)) r ⌝ }
+{
+    let answer = price(network, request, route, meeting);
+    let Priced::Price(price) = answer else {
+        let Priced::Refused(r) = answer else {
+            return 0;
+        };
+        return refusal_number(r);
+    };
+    price
+}
+
+// Finds the right plan, as the search does: 4,096 × cost + steps, or its refusal.
+#[no_mangle]
+pub extern "C" fn tivelgor_search(
+    network: &[u8],
+    request: &[u8],
+    distances: &mut [u32],
+    table: &mut [u64],
+    steps: &mut [u16],
+) -> u64
+    ensures { λ r. ⌜ PlanTold (now (network .entry)) (now (request .entry)) (lent (now (distances .entry)) (now (table .entry)) (now (steps .entry))) (lent (now (distances .exit)) (now (table .exit)) (now (steps .exit))) r ⌝ }
+{
+    let answer = search(network, request, distances, table, steps);
+    let Planned::Plan { cost, steps } = answer else {
+        let Planned::Refused(r) = answer else {
+            return 0;
+        };
+        return refusal_number(r);
+    };
+    4096 * cost + steps as u64
+}
+
+// The number of a refusal.
+fn refusal_number(r: Refusal) -> u64
+    requires { ⌜ r .place < 65536 ⌝ }
+    ensures { λ x. ⌜ x ≡ refusalNumber r ⌝ }
+{
+    9223372036854775808 + 65536 * r.place as u64 + r.number as u64
+}
