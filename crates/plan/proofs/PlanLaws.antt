@@ -1,9 +1,9 @@
 -- The steps that the search leaves behind can be printed.
-use Prim.Native.Nat.{ℕ, suc, _+_, _-_, _^_, _≤_, _<_}
+use Prim.Native.Nat.{ℕ, suc, _+_, _-_, _≤_, _<_}
 use native.Mathlib.Omega.{arith}
 use native.Mathlib.Numerals.{add-one}
-use mathlib.Core.Path.{_≡_, refl, sym, _∙_, ap, subst, subst⁻¹}
-use mathlib.Core.List.{List, [], _∷_, _++_}
+use mathlib.Core.Path.{_≡_, _∙_, ap, subst, subst⁻¹}
+use mathlib.Core.List.{List, _∷_}
 use lib.ListN.{length, getD, take, drop, length-append}
 use lib.Seq.{drop-cons, take-append-seam}
 use lib.Pow.{pow-pos}

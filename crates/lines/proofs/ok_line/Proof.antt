@@ -3,33 +3,22 @@ use Rattle.lines.proofs.TextLaws.{feed-room, field-room, room-less, two
 use borrow.Author.Needs.{needs}
 use Rattle.lines.proofs.ok_line.Statement.{statement}
 use Rattle.lines.proofs.ok_line.Tie as tie
-use Rattle.lines.proofs.ok_line.Reads as reads
-use Rattle.lines.proofs.ok_line.Lts as lts
-use Rattle.lines.proofs.text.field.Reads as field-reads
-use Rattle.lines.proofs.text.line_feed.Reads as line-feed-reads
-use Rattle.lines.proofs.text.word.Reads as word-reads
 
--- src/lib.rt:19:22
 line-feed-requires : tie.Need-line-feed-requires
 line-feed-requires c κs = search needs
 
--- src/lib.rt:19:16
 field-requires : tie.Need-field-requires
 field-requires c κs = search needs
 
--- src/lib.rt:19:10
 field-requires-2 : tie.Need-field-requires-2
 field-requires-2 c κs = room-less 74 21 (omega arith) (field-room 74 (c .before .before .args .steps) (feed-room (c .before .line-feed .ensures)) (c .field .ensures))
 
--- src/lib.rt:19:50
 slice-aggregate-word : tie.Need-slice-aggregate-word
 slice-aggregate-word c = search needs
 
--- src/lib.rt:19:5
 word-requires : tie.Need-word-requires
 word-requires c κs = room-less 53 2 (omega arith) (field-room 53 (c .before .before .before .before .args .cost) (field-room 74 (c .before .before .before .before .args .steps) (feed-room (c .before .before .before .line-feed .ensures)) (c .before .before .field .ensures)) (c .before .field2 .ensures))
 
--- src/lib.rt:16:1
 returns : tie.Need-returns
 returns c = two-fields (c .before .before .before .before .before .args .cost) (c .before .before .before .before .before .args .steps) (c .before .before .before .before .line-feed .ensures) (c .before .before .before .field .ensures) (c .before .before .field2 .ensures) (c .word .ensures)
 

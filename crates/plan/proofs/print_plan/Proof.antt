@@ -3,44 +3,31 @@ use Rattle.records.proofs.InputLaws.{network-size-within}
 use borrow.Author.Needs.{needs}
 use Rattle.plan.proofs.print_plan.Statement.{statement}
 use Rattle.plan.proofs.print_plan.Tie as tie
-use Rattle.plan.proofs.print_plan.Reads as reads
-use Rattle.plan.proofs.print_plan.Lts as lts
-use Rattle.plan.proofs.print_answer.Reads as print-answer-reads
-use Rattle.records.proofs.network_size.Reads as network-size-reads
 
--- src/main.rt:20:9
 network-size-requires : tie.Need-network-size-requires
 network-size-requires c κs = search needs
 
--- src/main.rt:21:18
 sub-print-answer : tie.Need-sub-print-answer
 sub-print-answer c = search needs
 
--- src/main.rt:21:18
 part-print-answer-start : tie.Need-part-print-answer-start
 part-print-answer-start c = search needs
 
--- src/main.rt:21:18
 part-print-answer-end : tie.Need-part-print-answer-end
 part-print-answer-end c = omega (arith, network-size-within (c .before .before .args .input .now), c .network-size .ensures)
 
--- src/main.rt:21:35
 sub-print-answer-2 : tie.Need-sub-print-answer-2
 sub-print-answer-2 c = omega (arith, network-size-within (c .before .before .before .args .input .now), c .before .network-size .ensures)
 
--- src/main.rt:21:35
 part-print-answer-start-2 : tie.Need-part-print-answer-start-2
 part-print-answer-start-2 c = omega (arith, network-size-within (c .before .before .before .args .input .now), c .before .network-size .ensures)
 
--- src/main.rt:21:35
 part-print-answer-end-2 : tie.Need-part-print-answer-end-2
 part-print-answer-end-2 c = search needs
 
--- src/main.rt:21:5
 print-answer-requires : tie.Need-print-answer-requires
 print-answer-requires c κs = search needs
 
--- src/main.rt:19:1
 returns : tie.Need-returns
 returns c = search needs
 

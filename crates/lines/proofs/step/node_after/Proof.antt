@@ -2,19 +2,13 @@ use borrow.Author.Needs.{needs}
 use Rattle.lines.proofs.StepLaws.{meet-stays, drive-goes, link-within}
 use Rattle.lines.proofs.step.node_after.Statement.{statement}
 use Rattle.lines.proofs.step.node_after.Tie as tie
-use Rattle.lines.proofs.step.node_after.Reads as reads
-use Rattle.lines.proofs.step.node_after.Lts as lts
-use Rattle.records.proofs.inner.to.Reads as to-reads
 
--- src/step.rt:34:9
 returns : tie.Need-returns
 returns c = meet-stays _ _ (c .before .before .args .step) (search needs)
 
--- src/step.rt:36:5
 to-requires : tie.Need-to-requires
 to-requires c κs = link-within (c .before .before .pre) (search needs)
 
--- src/step.rt:29:1
 returns-2 : tie.Need-returns-2
 returns-2 c = drive-goes _ _ (c .before .before .before .args .step) (search needs) (c .to .ensures .value)
 

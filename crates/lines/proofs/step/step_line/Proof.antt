@@ -4,62 +4,43 @@ use Rattle.lines.proofs.StepLaws.{place-small, link-within, meet-reads,
 use borrow.Author.Needs.{needs}
 use Rattle.lines.proofs.step.step_line.Statement.{statement}
 use Rattle.lines.proofs.step.step_line.Tie as tie
-use Rattle.lines.proofs.step.step_line.Reads as reads
-use Rattle.lines.proofs.step.step_line.Lts as lts
-use Rattle.lines.proofs.drive_line.Reads as drive-line-reads
-use Rattle.lines.proofs.meet_line.Reads as meet-line-reads
-use Rattle.records.proofs.inner.from.Reads as from-reads
-use Rattle.records.proofs.inner.to.Reads as to-reads
-use Rattle.records.proofs.inner.two.Reads as two-reads
 
--- src/step.rt:18:13
 two-requires : tie.Need-two-requires
 two-requires c κs = search needs
 
 place : (c : tie.After-two) → c .before .before .before .before .args .step * c .two .result + c .before .before .before .before .args .node < 3584
 place c = place-small (c .before .before .before .before .pre .0) (search needs) (c .two .ensures .value)
 
--- src/step.rt:19:34
 mul-distance : tie.Need-mul-distance
 mul-distance c = omega (arith, place c)
 
--- src/step.rt:19:34
 add-distance : tie.Need-add-distance
 add-distance c = omega (arith, place c)
 
--- src/step.rt:19:24
 mul-distance-2 : tie.Need-mul-distance-2
 mul-distance-2 c = omega (arith, place c)
 
--- src/step.rt:19:24
 shared-slice-read-distance : tie.Need-shared-slice-read-distance
 shared-slice-read-distance c = omega (arith, place (c .before), c .before .before .before .before .before .pre .1)
 
--- src/step.rt:20:52
 cast-meet-line : tie.Need-cast-meet-line
 cast-meet-line c = omega (arith, c .shared-slice-known3 .given (c .before .before .before .before .before .args .step * c .before .two .result + c .before .before .before .before .before .args .node))
 
--- src/step.rt:20:9
 meet-line-requires : tie.Need-meet-line-requires
 meet-line-requires c κs = search needs
 
--- src/step.rt:20:9
 returns : tie.Need-returns
 returns c = meet-reads (c .before .before .before .before .before .before .args .network .now) (c .before .before .before .before .before .before .args .distances .now) (c .before .before .before .before .before .before .args .node) (c .before .before .before .before .before .before .args .step) (search needs) (c .before .before .two .ensures .value) (c .meet-line .ensures)
 
--- src/step.rt:23:9
 from-requires : tie.Need-from-requires
 from-requires c κs = link-within (c .before .before .before .pre .0) (search needs)
 
--- src/step.rt:24:9
 to-requires : tie.Need-to-requires
 to-requires c κs = link-within (c .before .before .before .before .pre .0) (search needs)
 
--- src/step.rt:25:5
 drive-line-requires : tie.Need-drive-line-requires
 drive-line-requires c κs = search needs
 
--- src/step.rt:13:1
 returns-2 : tie.Need-returns-2
 returns-2 c = drive-reads (c .before .before .before .before .before .before .args .network .now) (c .before .before .before .before .before .before .args .distances .now) (c .before .before .before .before .before .before .args .node) (c .before .before .before .before .before .before .args .step) (search needs) (c .before .before .from .ensures .value) (c .before .to .ensures .value) (c .drive-line .ensures)
 

@@ -2,20 +2,13 @@ use Rattle.lines.proofs.TextLaws.{added-both, room-left}
 use borrow.Author.Needs.{needs}
 use Rattle.lines.proofs.text.field.Statement.{statement}
 use Rattle.lines.proofs.text.field.Tie as tie
-use Rattle.lines.proofs.text.field.Reads as reads
-use Rattle.lines.proofs.text.field.Lts as lts
-use Rattle.lines.proofs.text.number.Reads as number-reads
-use Rattle.lines.proofs.text.put.Reads as put-reads
 
--- src/text.rt:29:9
 number-requires : tie.Need-number-requires
 number-requires c κs = search needs
 
--- src/text.rt:29:5
 put-requires : tie.Need-put-requires
 put-requires c κs = room-left (c .before .args .x) (c .before .pre) (c .number .ensures)
 
--- src/text.rt:25:1
 returns : tie.Need-returns
 returns c = added-both (c .before .number .ensures) (c .put .ensures)
 

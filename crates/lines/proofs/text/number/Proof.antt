@@ -5,10 +5,6 @@ use Rattle.rules.specs.Program.{decimal}
 use Rattle.lines.proofs.TextLaws.{Adding, adding-none, spelling-room, number-more, number-last}
 use Rattle.lines.proofs.text.number.Statement.{statement}
 use Rattle.lines.proofs.text.number.Tie as tie
-use Rattle.lines.proofs.text.number.Reads as reads
-use Rattle.lines.proofs.text.number.Lts as lts
-use Rattle.lines.proofs.text.digit.Reads as digit-reads
-use Rattle.lines.proofs.text.put.Reads as put-reads
 
 abbrev Inv-loop : tie.InvT-loop
 Inv-loop x rest₀ text₀ rest text = (rest < 18446744073709551616) × Adding text₀ (decimal rest₀) (decimal rest) text
@@ -16,38 +12,30 @@ Inv-loop x rest₀ text₀ rest text = (rest < 18446744073709551616) × Adding t
 abbrev μ-loop : tie.MeasureT-loop
 μ-loop x rest₀ text₀ rest text = rest
 
--- src/text.rt:39:5
 loop-holds : tie.Need-loop-holds Inv-loop μ-loop
 loop-holds c = (omega arith, adding-none (decimal (c .args .x)) (c .pre))
 
--- src/text.rt:40:26
 digit-requires : tie.Need-digit-requires Inv-loop μ-loop
 digit-requires c κs = search needs
 
--- src/text.rt:40:9
 put-requires : tie.Need-put-requires Inv-loop μ-loop
 put-requires c κs = spelling-room (c .before .before .before .args .x) (c .before .before .loop .rest) (c .before .before .before .pre) (c .before .before .loop .inv .1)
 
--- src/text.rt:39:5
 loop-less : tie.Need-loop-less Inv-loop μ-loop
 loop-less c = search needs
 
--- src/text.rt:39:5
 loop-again : tie.Need-loop-again Inv-loop μ-loop
 loop-again c = (
   omega (arith, c .before .before .before .loop .inv .0),
   number-more (c .before .before .before .loop .rest) (c .before .before .before .loop .inv .0) (search needs) (c .before .digit .ensures) (c .before .before .before .loop .inv .1) (c .put .ensures),
 )
 
--- src/text.rt:43:15
 digit-requires-2 : tie.Need-digit-requires-2 Inv-loop μ-loop
 digit-requires-2 c κs = search needs
 
--- src/text.rt:43:5
 put-requires-2 : tie.Need-put-requires-2 Inv-loop μ-loop
 put-requires-2 c κs = spelling-room (c .before .before .before .args .x) (c .before .before .loop .rest) (c .before .before .before .pre) (c .before .before .loop .inv .1)
 
--- src/text.rt:33:1
 returns : tie.Need-returns Inv-loop μ-loop
 returns c = number-last (c .before .before .before .loop .rest) (search needs) (c .before .digit2 .ensures) (c .before .before .before .loop .inv .1) (c .put2 .ensures)
 

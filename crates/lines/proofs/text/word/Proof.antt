@@ -2,14 +2,10 @@ use Prim.Native.Nat.{_≤_}
 use native.Mathlib.Omega.{arith}
 use borrow.Author.Needs.{needs}
 use lib.ListN.{length, take}
-use lib.Seq.{length-take-le, take-length}
-use mathlib.Core.Path.{subst⁻¹}
-use Rattle.lines.proofs.TextLaws.{Adding, adding-none, adding-room, adding-done, word-more, word-all, word-done}
+use lib.Seq.{length-take-le}
+use Rattle.lines.proofs.TextLaws.{Adding, adding-room, word-more, word-all, word-done}
 use Rattle.lines.proofs.text.word.Statement.{statement}
 use Rattle.lines.proofs.text.word.Tie as tie
-use Rattle.lines.proofs.text.word.Reads as reads
-use Rattle.lines.proofs.text.word.Lts as lts
-use Rattle.lines.proofs.text.put.Reads as put-reads
 
 abbrev Inv-loop : tie.InvT-loop
 Inv-loop word i₀ text₀ i text = (i ≤ length word) × Adding text₀ word (take i word) text
@@ -17,34 +13,27 @@ Inv-loop word i₀ text₀ i text = (i ≤ length word) × Adding text₀ word (
 abbrev μ-loop : tie.MeasureT-loop
 μ-loop word i₀ text₀ i text = i
 
--- src/text.rt:53:5
 loop-holds : tie.Need-loop-holds Inv-loop μ-loop
 loop-holds c = (omega arith, word-all (c .before .args .word .now) (c .before .pre))
 
--- src/text.rt:54:9
 sub-i : tie.Need-sub-i Inv-loop μ-loop
 sub-i c = search needs
 
--- src/text.rt:55:26
 shared-slice-read-put : tie.Need-shared-slice-read-put Inv-loop μ-loop
 shared-slice-read-put c = omega (arith, c .before .before .loop .inv .0)
 
--- src/text.rt:55:9
 put-requires : tie.Need-put-requires Inv-loop μ-loop
 put-requires c κs = adding-room (c .before .before .before .before .pre .free) (c .before .before .loop .inv .1) (omega (arith, c .before .before .loop .inv .0, length-take-le (c .before .before .loop .i) (c .before .before .before .before .args .word .now) (c .before .before .loop .inv .0)))
 
--- src/text.rt:53:5
 loop-less : tie.Need-loop-less Inv-loop μ-loop
 loop-less c = search needs
 
--- src/text.rt:53:5
 loop-again : tie.Need-loop-again Inv-loop μ-loop
 loop-again c = (
   omega (arith, c .before .before .before .loop .inv .0),
   word-more (c .before .before .before .before .before .args .word .now) (c .before .before .before .loop .i) (search needs) (c .before .before .before .loop .inv .0) (c .before .before .before .loop .inv .1) (c .put .ensures),
 )
 
--- src/text.rt:47:1
 returns : tie.Need-returns Inv-loop μ-loop
 returns c = word-done (c .before .before .before .args .word .now) (c .before .loop .i) (omega arith) (c .before .loop .inv .1)
 
