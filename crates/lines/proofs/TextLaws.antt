@@ -1,12 +1,14 @@
 -- A text that grows at its front.
 use Prim.Native.Nat.{ℕ, suc, _+_, _-_, _/_, _%_, _≤_, _<_}
 use native.Mathlib.Omega.{arith}
+use native.Mathlib.Decide.{decLt}
 use mathlib.Core.Path.{_≡_, refl, sym, _∙_, ap, subst, subst⁻¹}
+use mathlib.Core.Logic.{_≢_}
 use mathlib.Core.List.{List, [], _∷_, _++_, append-assoc}
-use lib.ListN.{length, getD, set, take, drop, length-set, length-append}
-use lib.Seq.{drop-cons, drop-set-lt, getD-set-same, take-suc, take-length}
+use lib.ListN.{length, getD, set, replicate, getD-replicate, take, drop, length-set, length-append}
+use lib.Seq.{ext-getD, getD-drop, drop-cons, drop-set-lt, getD-set-same, getD-set-other, take-suc, take-length}
 use Rattle.rules.specs.Program.{decimal, fields, line}
-use Rattle.lines.specs.Text.{Room, Added, Reads, textOf}
+use Rattle.lines.specs.Text.{Room, Added, Reads, Clear, textOf}
 use Rattle.lines.specs.declared.text.Line.{Line}
 use Rattle.lines.proofs.DecimalLaws.{decimal-small, decimal-step, decimal-length}
 
@@ -23,10 +25,26 @@ put-adds {l} b room =
       size = length-set (l .bytes) (l .start - 1) b ∙ room .size;
       start = omega (arith, room .free);
       says = put-says (l .bytes) (l .start - 1) b (omega (arith, room .size, room .free, room .within)) ∙ ap (λ (k : ℕ). b ∷ drop k (l .bytes)) next;
+      clear = λ i h. getD-set-other (l .bytes) (l .start - 1) i b 0 (below i h) ∙ room .clear i (omega (arith, h));
     }
   where
     next : suc (l .start - 1) ≡ l .start
     next = omega (arith, room .free)
+
+    below : (i : ℕ) → i < l .start - 1 → i ≢ l .start - 1
+    below i h e = omega (arith, h, e)
+
+pub only-feed : Reads (record { bytes = set (replicate 96 0) 95 10; start = 95 }) (10 ∷ [])
+only-feed =
+    record {
+      size = refl;
+      start = refl;
+      says = refl;
+      clear = λ i h. getD-set-other (replicate 96 0) 95 i 10 0 (below i h) ∙ getD-replicate 96 i 0 0 (omega (arith, h));
+    }
+  where
+    below : (i : ℕ) → i < 95 → i ≢ 95
+    below i h e = omega (arith, h, e)
 
 -- Of what is to be put in front, this is left.
 pub record Adding (l : Line) (front left : List ℕ) (t : Line) : Type 0 where
@@ -34,9 +52,10 @@ pub record Adding (l : Line) (front left : List ℕ) (t : Line) : Type 0 where
   pub within : t .start ≤ 96
   pub start : t .start + length front ≡ l .start + length left
   pub says : left ++ textOf t ≡ front ++ textOf l
+  pub clear : Clear t
 
 pub adding-none : {more : ℕ} {l : Line} (front : List ℕ) → Room more l → Adding l front front l
-adding-none front room = record { size = room .size; within = room .within; start = refl; says = refl }
+adding-none front room = record { size = room .size; within = room .within; start = refl; says = refl; clear = room .clear }
 
 pub adding-more : {l t r : Line} {front : List ℕ} (left : List ℕ) (b : ℕ) → Adding l front (left ++ b ∷ []) t → Added t (b ∷ []) r → Adding l front left r
 adding-more {l} {t} {r} {front} left b so more =
@@ -45,14 +64,15 @@ adding-more {l} {t} {r} {front} left b so more =
       within = omega (arith, so .within, more .start);
       start = omega (arith, so .start, more .start, length-append left (b ∷ []));
       says = ap (λ (s : List ℕ). left ++ s) (more .says) ∙ sym (append-assoc left (b ∷ []) (textOf t)) ∙ so .says;
+      clear = more .clear;
     }
 
 pub adding-done : {l r : Line} {front : List ℕ} → Adding l front [] r → Added l front r
-adding-done so = record { size = so .size; start = omega (arith, so .start); says = so .says }
+adding-done so = record { size = so .size; start = omega (arith, so .start); says = so .says; clear = so .clear }
 
 -- there is room for what is left
 pub adding-room : {l t : Line} {front left : List ℕ} → length front ≤ l .start → Adding l front left t → 1 ≤ length left → Room 1 t
-adding-room free so some = record { size = so .size; free = omega (arith, free, so .start, some); within = so .within }
+adding-room free so some = record { size = so .size; free = omega (arith, free, so .start, some); within = so .within; clear = so .clear }
 
 -- the last digit of what is left of a number
 pub number-more : {l t r : Line} {front : List ℕ} (rest : ℕ) {b : ℕ} → rest < 18446744073709551616 → 10 ≤ rest → b ≡ 48 + rest % 10 → Adding l front (decimal rest) t → Added t (b ∷ []) r → Adding l front (decimal (rest / 10)) r
@@ -97,6 +117,7 @@ room-left x room so =
       size = so .size;
       free = omega (arith, room .free, so .start, decimal-length x .1);
       within = omega (arith, room .within, so .start);
+      clear = so .clear;
     }
 
 -- more is put in front of what was put there
@@ -106,6 +127,7 @@ added-both {l} {m} {r} {a} {b} one two =
       size = two .size;
       start = omega (arith, one .start, two .start, length-append a b);
       says = two .says ∙ ap (λ (t : List ℕ). a ++ t) (one .says) ∙ sym (append-assoc a b (textOf l));
+      clear = two .clear;
     }
 
 pub reads-more : {l r : Line} {a text : List ℕ} → Reads l text → Added l a r → Reads r (a ++ text)
@@ -114,11 +136,12 @@ reads-more {l} {r} {a} {text} so more =
       size = more .size;
       start = omega (arith, so .start, more .start, length-append a text);
       says = more .says ∙ ap (λ (t : List ℕ). a ++ t) (so .says);
+      clear = more .clear;
     }
 
 -- the room that is free behind a line feed, and behind a field
 pub feed-room : {l : Line} → Reads l (10 ∷ []) → Room 95 l
-feed-room so = record { size = so .size; free = omega (arith, so .start); within = omega (arith, so .start) }
+feed-room so = record { size = so .size; free = omega (arith, so .start); within = omega (arith, so .start); clear = so .clear }
 
 pub field-room : (more x : ℕ) {l r : Line} → Room (more + 21) l → Added l (32 ∷ decimal x) r → Room more r
 field-room more x room so =
@@ -126,13 +149,14 @@ field-room more x room so =
       size = so .size;
       free = omega (arith, room .free, so .start, decimal-length x .1);
       within = omega (arith, room .within, so .start);
+      clear = so .clear;
     }
 
 pub room-less : (more less : ℕ) {l : Line} → less ≤ more → Room more l → Room less l
-room-less more less small room = record { size = room .size; free = omega (arith, small, room .free); within = room .within }
+room-less more less small room = record { size = room .size; free = omega (arith, small, room .free); within = room .within; clear = room .clear }
 
 pub reads-room : {l : Line} {text : List ℕ} → Reads l text → Room 0 l
-reads-room so = record { size = so .size; free = omega arith; within = omega (arith, so .start) }
+reads-room so = record { size = so .size; free = omega arith; within = omega (arith, so .start); clear = so .clear }
 
 -- whole lines
 module _ {feed one two r : Line} {word : List ℕ} (x y : ℕ) (ends : Reads feed (10 ∷ [])) (last : Added feed (32 ∷ decimal y) one) (before : Added one (32 ∷ decimal x) two) where
@@ -143,3 +167,29 @@ module _ {feed one two r : Line} {word : List ℕ} (x y : ℕ) (ends : Reads fee
   pub three-fields : {three : Line} (z : ℕ) → Added two (32 ∷ decimal z) three → Added three word r → Reads r (line word (z ∷ x ∷ y ∷ []))
   unfolding fields
   three-fields z first spelt = reads-more (reads-more (reads-more (reads-more ends last) before) first) spelt
+
+-- a line that is a text is one value
+pub reads-unique : {a b : Line} {text : List ℕ} → Reads a text → Reads b text → a ≡ b
+reads-unique {a} {b} {text} p q = λ i. record { bytes = bytes i; start = starts i }
+  where
+    starts : a .start ≡ b .start
+    starts = omega (arith, p .start, q .start)
+
+    place : (l : Line) → Reads l text → (i : ℕ) → l .start ≤ i → getD (l .bytes) i 0 ≡ getD text (i - l .start) 0
+    place l so i late =
+        ap (λ (k : ℕ). getD (l .bytes) k 0) (split l i late)
+        ∙ sym (getD-drop (l .start) (l .bytes) (i - l .start) 0)
+        ∙ ap (λ (t : List ℕ). getD t (i - l .start) 0) (so .says)
+      where
+        split : (l : Line) (i : ℕ) → l .start ≤ i → i ≡ l .start + (i - l .start)
+        split l i late = omega (arith, late)
+
+    each : (i : ℕ) → Dec (i < a .start) → getD (a .bytes) i 0 ≡ getD (b .bytes) i 0
+    each i (yes h) = p .clear i h ∙ sym (q .clear i (omega (arith, h, starts)))
+    each i (no h) =
+        place a p i (omega (arith, h))
+        ∙ ap (λ (k : ℕ). getD text (i - k) 0) starts
+        ∙ sym (place b q i (omega (arith, h, starts)))
+
+    bytes : a .bytes ≡ b .bytes
+    bytes = ext-getD 0 (a .bytes) (b .bytes) (p .size ∙ sym (q .size)) (λ i h. each i (decLt i (a .start)))
