@@ -1,9 +1,8 @@
 // The lines that the program prints, made from the line feed backwards.
+pub mod inner;
 mod step;
 mod text;
 
-pub use step::node_after;
-pub use step::step_line;
 pub use text::Line;
 use text::field;
 use text::line_feed;

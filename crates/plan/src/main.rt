@@ -60,8 +60,8 @@ fn print_steps(network: &[u8], distances: &[u32], source: usize, steps: &[u16])
     let mut i = 0;
     while i < steps.len() {
         let step = steps[i] as usize;
-        print_line(lines::step_line(network, distances, node, step));
-        node = lines::node_after(network, node, step);
+        print_line(lines::inner::step_line(network, distances, node, step));
+        node = lines::inner::node_after(network, node, step);
         i += 1;
     }
 }
