@@ -101,13 +101,13 @@ pub record Tablet (network request bytes : List ℕ) (number : ℕ) : Type 0 whe
   pub tells : number ≡ tabletNumber answer
 
 -- 21, 22, 23: search: distances under l·n; table under 2^l·n; steps under l+(l+1)(n-1)
+abbrev pub roomChecks : ℕ → ℕ → ℕ → ℕ → ℕ → List Check
+roomChecks n l distances table steps =
+    check 21 0 (ltb distances (distancePlaces n l)) ∷ check 22 0 (ltb table (tablePlaces n l)) ∷ check 23 0 (ltb steps (stepPlaces n l)) ∷ []
+
 abbrev pub searchChecks : List ℕ → List ℕ → ℕ → ℕ → ℕ → List Check
 searchChecks network request distances table steps =
-    recordChecks network request
-    ++ check 21 0 (ltb distances (distancePlaces (nodeCount network) (requestValue request .count)))
-    ∷ check 22 0 (ltb table (tablePlaces (nodeCount network) (requestValue request .count)))
-    ∷ check 23 0 (ltb steps (stepPlaces (nodeCount network) (requestValue request .count)))
-    ∷ []
+    recordChecks network request ++ roomChecks (nodeCount network) (requestValue request .count) distances table steps
 
 -- the three lent rooms
 pub record Lent : Type 0 where

@@ -11,7 +11,7 @@ use Rattle.rules.specs.Checks.{refuse, firstOf}
 use Rattle.rules.specs.Network.{SoundNetwork, nodeCount}
 use Rattle.rules.specs.Request.{SoundValue, recordChecks, requestVerdict, requestValue}
 use Rattle.rules.specs.Rooms.{distancePlaces, tablePlaces, stepPlaces}
-use Rattle.rules.specs.Answers.{Lent, Searched, Searching, refused}
+use Rattle.rules.specs.Answers.{Lent, Searched, Searching, roomChecks, refused}
 use Rattle.rules.specs.declared.Refusal.{Refusal}
 use Rattle.rules.specs.declared.Request.{Request}
 use Rattle.rules.specs.declared.Verdict.{Verdict}
@@ -20,7 +20,7 @@ use Rattle.rules.specs.declared.Planned.{Planned}
 use Rattle.rules.specs.declared.Planned.the-variants.{Refused as NotPlanned}
 use Rattle.rules.proofs.Order.{front-refused, front-passed, accepted-head}
 use Rattle.table.proofs.RowLaws.{few-sets}
-use Rattle.search.specs.Rooms.{roomChecks, Roomy}
+use Rattle.search.specs.Rooms.{Roomy}
 
 -- seven riders have 128 sets
 pub sets-few : (l : ℕ) → l ≤ 7 → 2 ^ l ≤ 128

@@ -12,8 +12,8 @@ use table::inner::rider_bit;
 ghost use Prim.Native.Nat.{_≤_};
 ghost use mathlib.Core.Path.{_≡_};
 ghost use Rattle.rules.specs.Checks.{firstOf};
-ghost use Rattle.rules.specs.Answers.{Searched};
-ghost use Rattle.search.specs.Rooms.{lent, roomChecks};
+ghost use Rattle.rules.specs.Answers.{roomChecks, Searched};
+ghost use Rattle.search.specs.Rooms.{lent};
 
 // Finds the right plan: fills the riders' walking distances and the work table, and writes the plan's steps. Answers its
 // cost and number of steps; or 24, with distances and table filled; or another refusal, with every room unchanged.
