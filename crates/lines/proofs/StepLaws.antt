@@ -2,19 +2,17 @@
 use Prim.Native.Nat.{ℕ, _+_, _-_, _*_, _≤_, _<_}
 use native.Mathlib.Omega.{arith}
 use native.Mathlib.Nat.{mul-le-mul-right}
-use mathlib.Core.Path.{_≡_, refl, _∙_}
-use mathlib.Core.Bool.{Bool, true, false, cond}
-use mathlib.Core.List.{List, [], _∷_, _++_}
+use mathlib.Core.Path.{_≡_, _∙_}
+use mathlib.Core.List.{List, [], _∷_}
 use lib.ListN.{length, getD}
-use lib.Dec.{ltb}
 use borrow.Author.Tests.{lt-ltb, le-ltb}
 use Rattle.rules.specs.Network.{nodeCount, linkStart, from, to}
 use Rattle.rules.specs.Plans.{Finish, without, meet, drive}
+use Rattle.rules.specs.Program.{line, meetWord, driveWord, stepLine, nodeAfter}
 use Rattle.finish.proofs.Sets.{has-below, without-less}
-use Rattle.lines.specs.Steps.{Takes, Rides, stepLine, nodeAfter}
+use Rattle.lines.specs.Steps.{Takes, Rides}
 use Rattle.lines.specs.Text.{Reads}
 use Rattle.lines.specs.declared.text.Line.{Line}
-use Rattle.rules.specs.Program.{line, meetWord, driveWord, stepLines}
 
 pub meet-stays : (network : List ℕ) (v step : ℕ) → step < 8 → v ≡ nodeAfter network v step
 meet-stays network v step low = simp (lt-ltb step 8 low)
@@ -39,22 +37,6 @@ meet-reads network distances v step low e so = simp (lt-ltb step 8 low, ← e) s
 
 pub drive-reads : (network distances : List ℕ) (v step : ℕ) {f t : ℕ} {r : Line} → 8 ≤ step → f ≡ from network (step - 8) → t ≡ to network (step - 8) → Reads r (line driveWord ((step - 8) ∷ f ∷ t ∷ [])) → Reads r (stepLine network distances v step)
 drive-reads network distances v step high e g so = simp (le-ltb step 8 high, ← e, ← g) so
-
--- the lines of the steps are a first line and the lines from the next node on
-pub step-lines : (network distances : List ℕ) (v step : ℕ) (steps : List ℕ) → stepLines network distances v (step ∷ steps) ≡ stepLine network distances v step ++ stepLines network distances (nodeAfter network v step) steps
-unfolding stepLines
-step-lines network distances v step steps = go (ltb step 8)
-  where
-    go : (low : Bool)
-        → cond low
-        (line meetWord (step ∷ v ∷ getD distances (step * nodeCount network + v) 0 ∷ []) ++ stepLines network distances v steps)
-        (line driveWord ((step - 8) ∷ from network (step - 8) ∷ to network (step - 8) ∷ []) ++ stepLines network distances (to network (step - 8)) steps)
-        ≡ cond low
-        (line meetWord (step ∷ v ∷ getD distances (step * nodeCount network + v) 0 ∷ []))
-        (line driveWord ((step - 8) ∷ from network (step - 8) ∷ to network (step - 8) ∷ []))
-        ++ stepLines network distances (cond low v (to network (step - 8))) steps
-    go true = refl
-    go false = refl
 
 module _ {network : List ℕ} {v step : ℕ} {steps : List ℕ} (rides : Rides network v (step ∷ steps)) where
   pub rides-takes : Takes network v step

@@ -6,8 +6,9 @@ use records::inner;
 ghost use Prim.Native.Nat.{_≤_};
 ghost use mathlib.Core.Path.{_≡_};
 ghost use lib.ListN.{length};
+ghost use Rattle.rules.specs.Program.{stepLine, nodeAfter};
 ghost use Rattle.lines.specs.Text.{Reads};
-ghost use Rattle.lines.specs.Steps.{Takes, stepLine, nodeAfter};
+ghost use Rattle.lines.specs.Steps.{Takes};
 
 // The line of a step that is taken where the bus stands at the node.
 pub fn step_line(network: &[u8], distances: &[u32], node: usize, step: usize) -> Line

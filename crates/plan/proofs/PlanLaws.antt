@@ -11,13 +11,14 @@ use Rattle.rules.specs.Network.{SoundNetwork, nodeCount}
 use Rattle.rules.specs.Request.{SoundRequest, SoundValue, recordChecks, requestVerdict, requestValue, source}
 use Rattle.rules.specs.Plans.{Finish, allRiders}
 use Rattle.rules.specs.Answers.{Lent, Searched, refused, hopeless, planned}
+use Rattle.rules.specs.Program.{nodeAfter}
 use Rattle.rules.specs.declared.Planned.{Planned}
 use Rattle.rules.specs.declared.Planned.the-variants.{Plan as Found}
 use Rattle.rules.proofs.Order.{accepted-front}
 use Rattle.rules.proofs.SoundRequestLaws.{records-sound, value-sound}
 use Rattle.plan.specs.Printing.{Printable, Answered}
 use Rattle.search.proofs.EntryLaws.{sets-few}
-use Rattle.lines.specs.Steps.{Takes, Rides, nodeAfter}
+use Rattle.lines.specs.Steps.{Takes, Rides}
 use Rattle.lines.proofs.StepLaws.{rides-takes, rides-on}
 
 module _ {network : List ℕ} {v : ℕ} (steps : List ℕ) (i : ℕ) (within : i < length steps) (rides : Rides network v (drop i steps)) where

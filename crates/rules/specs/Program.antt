@@ -4,8 +4,7 @@ use mathlib.Core.Bool.{_||_, cond}
 use mathlib.Core.List.{List, [], _∷_, _++_}
 use lib.ListN.{length, getD, take, drop}
 use lib.Dec.{ltb}
-use Rattle.rules.specs.Network.{statedLength}
-use Rattle.rules.specs.Network.{nodeCount, from, to}
+use Rattle.rules.specs.Network.{statedLength, nodeCount, from, to}
 use Rattle.rules.specs.declared.Planned.{Planned}
 use Rattle.rules.specs.declared.Planned.the-variants.{Plan as Found, Refused as NotPlanned}
 
@@ -61,14 +60,21 @@ meetWord = 109 ∷ 101 ∷ 101 ∷ 116 ∷ []
 abbrev pub refusedWord : List ℕ
 refusedWord = 114 ∷ 101 ∷ 102 ∷ 117 ∷ 115 ∷ 101 ∷ 100 ∷ []
 
--- "`drive` link from to; `meet` rider node walking-distance", from the node v on
+-- "`drive` link from to; `meet` rider node walking-distance": the line of a step from the node v
+abbrev pub stepLine : List ℕ → List ℕ → ℕ → ℕ → List ℕ
+stepLine network distances v step =
+    cond (ltb step 8)
+    (line meetWord (step ∷ v ∷ getD distances (step * nodeCount network + v) 0 ∷ []))
+    (line driveWord ((step - 8) ∷ from network (step - 8) ∷ to network (step - 8) ∷ []))
+
+-- where the bus stands after a step from the node v
+abbrev pub nodeAfter : List ℕ → ℕ → ℕ → ℕ
+nodeAfter network v step = cond (ltb step 8) v (to network (step - 8))
+
 unfoldable pub stepLines : List ℕ → List ℕ → ℕ → List ℕ → List ℕ
 stepLines network distances v [] = []
 stepLines network distances v (step ∷ steps) =
-    cond (ltb step 8)
-    (line meetWord (step ∷ v ∷ getD distances (step * nodeCount network + v) 0 ∷ []) ++ stepLines network distances v steps)
-    (line driveWord ((step - 8) ∷ from network (step - 8) ∷ to network (step - 8) ∷ [])
-    ++ stepLines network distances (to network (step - 8)) steps)
+    stepLine network distances v step ++ stepLines network distances (nodeAfter network v step) steps
 
 -- "`ok` cost steps", then a line for each step. "A refusal prints `refused` number place."
 unfoldable pub printed : List ℕ → ℕ → Planned → List ℕ → List ℕ → List ℕ
