@@ -6,7 +6,8 @@ use mathlib.Core.List.{List}
 use native.Mathlib.Decide.{ℕ-discrete, decLt}
 use native.Mathlib.Omega.{arith}
 use Rattle.rules.specs.Network.{SoundNetwork, nodeCount, linkCount, from, to, walk, closed}
-use Rattle.rules.specs.Walks.{Walkable, WalkingDistance}
+use Rattle.rules.specs.Walks.{Walkable, Walk, WalkingDistance}
+use Rattle.rules.proofs.WalkLaws.{distance-unique}
 use Rattle.least.specs.Trips.{Trip, done, step, arcCount, At, Inside}
 use Rattle.least.specs.Walking.{Linked}
 use Rattle.least.proofs.Walking.{way-trip, trip-way}
@@ -108,23 +109,40 @@ module _ (network : List ℕ) (v : ℕ) where
     ]
   ]
 
-  -- d is the walking distance where a walk has a sum below d + 1 and none has one below d.
-  pub dec-distance : SoundNetwork network → (u d : ℕ) → u < nodeCount network → Dec (WalkingDistance network u v d)
-  dec-distance sound u d h = elim (dec-short (nodeCount network) u d) [
-    | yes r ↦ no (λ far. omega (arith, far .least _ _ (trip-way (r .trip) .1), r .below))
-    | no less ↦ elim (dec-short (nodeCount network) u (suc d)) [
-      | no none ↦ no (λ far. none (short (way-trip (far .walked)) (omega arith)))
-      | yes r ↦ (
-          let above : ¬ (r .sum < d) = λ below. less (record { sum = r .sum; trip = r .trip; few = r .few; below = below }) in
-          let same : r .sum ≡ d = omega (arith, r .below) in
-          let (links, walked) = trip-way (rw same at (r .trip)) in
-          yes (record { links = links; walked = walked; least = λ other sum walk. elim (decLt sum d) [ yes g ↦ absurd (less (short (way-trip walk) g)) | no g ↦ omega arith ] })
+  module _ (sound : SoundNetwork network) {u : ℕ} (h : u < nodeCount network) where
+    -- Some walk has fewer than n links and no greater sum.
+    short : {sum b : ℕ} → Trip (Linked (Walkable network)) (At v) u sum → sum < b → Short (nodeCount network) u b
+    short t below =
+        let inside : Inside (nodeCount network) (Linked (Walkable network)) = λ u x w g a. omega (arith, sound .ends (a .0) (a .1 .exists)) in
+        let s = shortened inside h t in
+        record { sum = s .sum; trip = s .trip; few = s .short; below = omega arith }
+
+    -- The sum of a walk is the distance where no walk has a lower one.
+    descend : (b : ℕ) → Short (nodeCount network) u b → (d : ℕ) × WalkingDistance network u v d
+    descend zero r = absurd (omega (arith, r .below))
+    descend (suc b) r = elim (dec-short (nodeCount network) u b) [
+      | yes s ↦ descend b s
+      | no less ↦ (
+          let (links, walked) = trip-way (r .trip) in (
+            r .sum,
+            record {
+              links = links;
+              walked = walked;
+              least = λ other sum walk. elim (decLt sum b) [ yes g ↦ absurd (less (short (way-trip walk) g)) | no g ↦ omega (arith, r .below) ];
+            },
+          )
           )
     ]
-  ]
-    where
-      short : {sum b : ℕ} → Trip (Linked (Walkable network)) (At v) u sum → sum < b → Short (nodeCount network) u b
-      short t below =
-          let inside : Inside (nodeCount network) (Linked (Walkable network)) = λ u x w g a. omega (arith, sound .ends (a .0) (a .1 .exists)) in
-          let s = shortened inside h t in
-          record { sum = s .sum; trip = s .trip; few = s .short; below = omega arith }
+
+    -- Where there is a walk, there is a distance.
+    pub some-distance : {links : List ℕ} {sum : ℕ} → Walk network u v links sum → (d : ℕ) × WalkingDistance network u v d
+    some-distance {sum = sum} walked = descend (suc sum) (short (way-trip walked) (omega arith))
+
+    pub dec-distance : (d : ℕ) → Dec (WalkingDistance network u v d)
+    dec-distance d = elim (dec-short (nodeCount network) u (suc d)) [
+      | no none ↦ no (λ far. none (short (way-trip (far .walked)) (omega arith)))
+      | yes r ↦ (
+          let (e, far) = descend (suc d) r in
+          elim (ℕ-discrete e d) [ yes same ↦ yes (rw same at far) | no other ↦ no (λ also. other (distance-unique far also)) ]
+          )
+    ]

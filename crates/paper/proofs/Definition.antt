@@ -6,12 +6,12 @@ use native.Mathlib.Nat.{mul-add, mul-zero}
 use native.Mathlib.Omega.{arith}
 use Rattle.rules.specs.Network.{SoundNetwork, nodeCount}
 use Rattle.rules.specs.Request.{SoundValue, riderNodeOf, riderWeightOf}
-use Rattle.rules.specs.Routes.{Route, nodeAt, RiderWalks, Meeting, sum, Price}
+use Rattle.rules.specs.Routes.{Route, nodeAt, Reaches, RiderWalks, Meeting, sum, Price}
 use Rattle.rules.specs.declared.Request.{Request}
 use Rattle.rules.proofs.PriceLaws.{sum-same}
 use Rattle.paper.specs.Fraction.{Fraction, times, Is, AtMost}
 use Rattle.paper.specs.Problem.{Graph, OneWeight, Path, stays, goes, NodeRoute, Query, average, Cost, Optimal}
-use Rattle.paper.specs.Prices.{Reaches, HasPrice, NoLower}
+use Rattle.paper.specs.Prices.{HasPrice, NoLower}
 use Rattle.paper.specs.TwoWay.{TwoWay, graphOf, EqualWeights, queryOf, nodesOf, PricedPath}
 use Rattle.paper.proofs.Fraction.{average-is, le-at-most, at-most-le}
 use Rattle.paper.proofs.TwoWay.{passes, passed, drive-path, path-drive, distance-dist, dist-distance}
@@ -49,7 +49,7 @@ module _ {network : List ℕ} (two : TwoWay network) {q : Request} {route : List
   near-meeting {j} {d} sound value h near =
       let (position, within, is) = passed network (q .source) route (near .passed) in
       let walks : RiderWalks network q j (nodeAt network (q .source) route position) d = rw is at (dist-distance two (near .reached)) in
-      let (e, found) = nearest sound value route h (record { position = position; within = within; distance = d; walks = walks }) in
+      let (e, found) = nearest sound value route h (record { position = position; links = walks .links; sum = d; within = within; walk = walks .walked }) in
       let (p, m) = found in
       let same : e ≡ d = near-unique (meeting-near m) near in
       (p, rw same at m)

@@ -6,11 +6,11 @@ use native.Mathlib.Decide.{decLt}
 use native.Mathlib.Omega.{arith}
 use lib.ListN.{length, getD}
 use Rattle.rules.specs.Network.{SoundNetwork, nodeCount}
-use Rattle.rules.specs.Request.{SoundValue, riderNodeOf, riderWeightOf}
-use Rattle.rules.specs.Routes.{Route, nodeAt, RiderWalks, Meeting, sum}
+use Rattle.rules.specs.Request.{SoundValue, riderWeightOf}
+use Rattle.rules.specs.Routes.{Route, nodeAt, Reaches, RiderWalks, Meeting, sum}
 use Rattle.rules.specs.declared.Request.{Request}
-use Rattle.paper.specs.Prices.{Reaches, HasPrice}
-use Rattle.paper.proofs.Decide.{Lowest, dec-lowest, lowest-of, dec-distance}
+use Rattle.paper.specs.Prices.{HasPrice}
+use Rattle.paper.proofs.Decide.{Lowest, dec-lowest, lowest-of, some-distance, dec-distance}
 
 -- What holds of some number for each j below the count holds of the numbers of a list.
 module _ (M : ℕ → ℕ → Type 0) where
@@ -51,13 +51,16 @@ module _ {network : List ℕ} (sound : SoundNetwork network) {q : Request} (valu
       At d i = RiderWalks network q j (nodeAt network (q .source) route i) d
 
       dec : (d i : ℕ) → Dec (At d i)
-      dec d i = dec-distance network (nodeAt network (q .source) route i) sound (riderNodeOf q j) d (value .nodes j h)
+      dec d i = dec-distance network (nodeAt network (q .source) route i) sound (value .nodes j h) d
 
       earliest : {i : ℕ} (d : ℕ) → i ≤ length route → At d i → Lowest (At d) (suc (length route))
       earliest d g far = lowest-of (dec d) (omega arith) far
 
-      least : Lowest (λ d. Lowest (At d) (suc (length route))) (suc (r .distance))
-      least = lowest-of (λ d. dec-lowest (dec d) (suc (length route))) {i = r .distance} (omega arith) (earliest (r .distance) (r .within) (r .walks))
+      some : (d : ℕ) × At d (r .position)
+      some = some-distance network (nodeAt network (q .source) route (r .position)) sound (value .nodes j h) (r .walk)
+
+      least : Lowest (λ d. Lowest (At d) (suc (length route))) (suc (some .0))
+      least = lowest-of (λ d. dec-lowest (dec d) (suc (length route))) {i = some .0} (omega arith) (earliest (some .0) (r .within) (some .1))
 
       first : Lowest (At (least .number)) (suc (length route))
       first = least .holds

@@ -3,15 +3,8 @@ use Prim.Native.Nat.{ℕ, _≤_}
 use mathlib.Core.Path.{_≡_}
 use mathlib.Core.List.{List}
 use lib.ListN.{length}
-use Rattle.rules.specs.Routes.{RiderWalks, nodeAt, Price}
+use Rattle.rules.specs.Routes.{Price}
 use Rattle.rules.specs.declared.Request.{Request}
-
--- Rider j can walk to a position of the route.
-pub record Reaches (network : List ℕ) (q : Request) (route : List ℕ) (j : ℕ) : Type 0 where
-  pub position : ℕ
-  pub within : position ≤ length route
-  pub distance : ℕ
-  pub walks : RiderWalks network q j (nodeAt network (q .source) route position) distance
 
 -- The route has this price, with one meeting position for each rider.
 pub record HasPrice (network : List ℕ) (q : Request) (route : List ℕ) (price : ℕ) : Type 0 where

@@ -5,9 +5,8 @@ use mathlib.Core.Bool.{cond}
 use mathlib.Core.List.{List, [], _∷_}
 use lib.ListN.{length}
 use lib.Dec.{ltb, eqb}
-use Rattle.rules.specs.Request.{riderNodeOf, riderWeightOf}
-use Rattle.rules.specs.Walks.{Walk}
-use Rattle.rules.specs.Routes.{Route, RiderWalks, nodeAt, sum}
+use Rattle.rules.specs.Request.{riderWeightOf}
+use Rattle.rules.specs.Routes.{Route, Reaches, RiderWalks, nodeAt, sum}
 use Rattle.rules.specs.Plans.{Finish}
 use Rattle.rules.specs.declared.Request.{Request}
 
@@ -50,14 +49,6 @@ pub record Along (network : List ℕ) (q : Request) (count : ℕ) (route : List 
   pub drives : drivesOf steps ≡ route
   pub meets : (j : ℕ) → j < count → metAt j steps ≡ position j
   pub counts : length steps ≡ count + length route
-
--- Rider j can walk to the node of some position of the route.
-pub record Reaches (network : List ℕ) (q : Request) (route : List ℕ) (j : ℕ) : Type 0 where
-  pub position : ℕ
-  pub links : List ℕ
-  pub sum : ℕ
-  pub within : position ≤ length route
-  pub walk : Walk network (riderNodeOf q j) (nodeAt network (q .source) route position) links sum
 
 -- No drive from source to target passes, for each rider, a node that the rider can walk to.
 abbrev pub NoDrive : List ℕ → Request → Type 0

@@ -7,7 +7,7 @@ use lib.Dec.{ltb, leb}
 use Rattle.rules.specs.Checks.{Check, check, each, differ}
 use Rattle.rules.specs.Network.{linkCount, from, to, drive, closed}
 use Rattle.rules.specs.Request.{riderNodeOf, riderWeightOf}
-use Rattle.rules.specs.Walks.{Leads, Way, WalkingDistance}
+use Rattle.rules.specs.Walks.{Leads, Way, Walk, WalkingDistance}
 use Rattle.rules.specs.declared.Request.{Request}
 
 -- "A route is a list of links open to the bus. The first starts at the source, each next starts where the last ended, the last ends at the target. The empty route is legal exactly when source = target."
@@ -22,6 +22,14 @@ unfoldable pub nodeAt : List ℕ → ℕ → List ℕ → ℕ → ℕ
 nodeAt network u route zero = u
 nodeAt network u [] (suc position) = u
 nodeAt network u (k ∷ route) (suc position) = nodeAt network (to network k) route position
+
+-- Rider j can walk to the node of some position of the route.
+pub record Reaches (network : List ℕ) (q : Request) (route : List ℕ) (j : ℕ) : Type 0 where
+  pub position : ℕ
+  pub links : List ℕ
+  pub sum : ℕ
+  pub within : position ≤ length route
+  pub walk : Walk network (riderNodeOf q j) (nodeAt network (q .source) route position) links sum
 
 -- rider j has the walking distance d to the node v
 abbrev pub RiderWalks : List ℕ → Request → ℕ → ℕ → ℕ → Type 0
