@@ -1,6 +1,7 @@
 // Riders: which position of a route is nearest to each of them.
 use crate::route::link_at;
 use records::inner::to;
+use rules::NO_DISTANCE;
 use rules::Priced;
 use rules::Refusal;
 use rules::Request;
@@ -41,7 +42,7 @@ pub fn meet_riders(network: &[u8], q: Request, route: &[u16], driving: u64) -> R
     while j < q.count {
         let spot = nearest(network, nodes[j], q.source, route);
         let distance = spot.distance;
-        if distance == 4294967295 {
+        if distance == NO_DISTANCE {
             return RoutePrice {
                 answer: Priced::Refused(Refusal {
                     number: 37,

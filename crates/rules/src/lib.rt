@@ -3,6 +3,12 @@
 ghost use mathlib.Core.Path.{_≡_};
 ghost use Rattle.rules.specs.Checks.{refuse};
 
+// What a place of walking distances holds where there is no walk.
+pub const NO_DISTANCE: u32 = 4294967295;
+
+// What a place of the search's table holds where there is no finish.
+pub const NO_FINISH: u64 = 18446744073709551615;
+
 // A refusal: document 01's number, and the place it names (0 where it names none).
 pub struct Refusal {
     pub number: u16,

@@ -1,6 +1,7 @@
 // The search in rooms that are known to be large enough, for records that were read.
 use crate::steps::read_plan;
 use crate::steps::value;
+use rules::NO_FINISH;
 use rules::Planned;
 use rules::Refusal;
 use rules::Request;
@@ -25,7 +26,7 @@ pub fn plan(
     fill_distances(network, q, distances);
     fill_table(network, q, distances, table);
     let best = value(network, table, rider_bit(q.count as u32) - 1, q.source);
-    if best == 18446744073709551615 {
+    if best == NO_FINISH {
         return Planned::Refused(Refusal {
             number: 24,
             place: 0,

@@ -3,6 +3,7 @@ use records::inner::drive;
 use records::inner::from;
 use records::inner::to;
 use records::inner::two;
+use rules::NO_FINISH;
 use rules::Request;
 use table::inner::meeting_step;
 use table::inner::place;
@@ -20,8 +21,6 @@ pub struct Move {
     pub riders: u32,
     pub node: usize,
 }
-
-const NO_FINISH: u64 = 18446744073709551615;
 
 // The value at a rider set and a node.
 pub fn value(network: &[u8], table: &[u64], riders: u32, v: usize) -> u64

@@ -2,6 +2,8 @@
 use crate::places::place;
 use crate::places::rider_bit;
 use records::inner::two;
+use rules::NO_DISTANCE;
+use rules::NO_FINISH;
 use rules::Request;
 ghost use Prim.Native.Nat.{_+_, _*_, _<_, min};
 ghost use mathlib.Core.Path.{_≡_};
@@ -12,10 +14,6 @@ ghost use Rattle.rules.specs.Rooms.{noFinish};
 ghost use Rattle.least.specs.Least.{Least};
 ghost use Rattle.finish.specs.Packed.{Ends};
 ghost use Rattle.table.specs.Filling.{Ready, RowReady, Started, meetingStep};
-
-const NO_DISTANCE: u32 = 4294967295;
-
-const NO_FINISH: u64 = 18446744073709551615;
 
 // Fills row `riders` with what it starts from.
 pub fn start_row(network: &[u8], q: Request, distances: &[u32], riders: u32, table: &mut [u64])

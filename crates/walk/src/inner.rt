@@ -1,5 +1,6 @@
 // Walking in a room that is known to be large enough: the whole of it, or a row of the search's distances.
 use records::inner::two;
+use rules::NO_DISTANCE;
 use spread::inner::spread_walks;
 ghost use Prim.Native.Nat.{_<_, _≤_};
 ghost use mathlib.Core.Path.{_≡_};
@@ -26,7 +27,7 @@ fn clear(distances: &mut [u32], n: usize)
 {
     let mut v = 0;
     while v < n {
-        distances[v] = 4294967295;
+        distances[v] = NO_DISTANCE;
         v += 1;
     }
 }
