@@ -2,7 +2,7 @@
 use crate::records::*;
 use rules::Planned;
 
-pub const MOST_LINKS: usize = 8;
+pub const MOST_LINKS: usize = 12;
 
 pub const MOST_RIDERS: usize = 3;
 
@@ -24,7 +24,7 @@ pub const RIDERS: usize = 6;
 
 pub const LINKS: usize = 12;
 
-pub const NUMBERS: usize = 44;
+pub const NUMBERS: usize = 60;
 
 // How many places of each room are lent.
 pub struct Places {

@@ -3,8 +3,8 @@ use crate::inner::*;
 ghost use Prim.Native.Nat.{_+_, _≤_};
 
 // The record of the row's network, with zeros behind it.
-pub fn network_bytes(town: &[usize; NUMBERS]) -> [u8; 73] {
-    let mut bytes = [0u8; 73];
+pub fn network_bytes(town: &[usize; NUMBERS]) -> [u8; 105] {
+    let mut bytes = [0u8; 105];
     bytes[0] = 1;
     bytes[4] = low(network_size(town));
     bytes[6] = low(town[N]);
@@ -14,12 +14,12 @@ pub fn network_bytes(town: &[usize; NUMBERS]) -> [u8; 73] {
 }
 
 pub fn network_size(town: &[usize; NUMBERS]) -> usize
-    ensures { λ r. ⌜ r ≤ 73 ⌝ }
+    ensures { λ r. ⌜ r ≤ 105 ⌝ }
 {
     9 + 8 * (town[M] % (MOST_LINKS + 1))
 }
 
-fn put_links(bytes: &mut [u8; 73], town: &[usize; NUMBERS]) {
+fn put_links(bytes: &mut [u8; 105], town: &[usize; NUMBERS]) {
     let mut i = 0;
     while i < 4 * MOST_LINKS {
         put_two(bytes, 9 + 2 * i, town[LINKS + i]);
@@ -27,8 +27,8 @@ fn put_links(bytes: &mut [u8; 73], town: &[usize; NUMBERS]) {
     }
 }
 
-fn put_two(bytes: &mut [u8; 73], at: usize, x: usize)
-    requires { ⌜ at + 2 ≤ 73 ⌝ }
+fn put_two(bytes: &mut [u8; 105], at: usize, x: usize)
+    requires { ⌜ at + 2 ≤ 105 ⌝ }
 {
     bytes[at] = low(x / 256);
     bytes[at + 1] = low(x);

@@ -7,7 +7,7 @@ abbrev Inv-loop : tie.InvT-loop
 Inv-loop town₀ start numbers from i₀ k₀ town i k = Unit
 
 abbrev μ-loop : tie.MeasureT-loop
-μ-loop town₀ start numbers from i₀ k₀ town i k = 44 - i
+μ-loop town₀ start numbers from i₀ k₀ town i k = 60 - i
 
 loop-holds : tie.Need-loop-holds Inv-loop μ-loop
 loop-holds c = search needs

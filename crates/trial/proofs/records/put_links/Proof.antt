@@ -8,7 +8,7 @@ abbrev Inv-loop : tie.InvT-loop
 Inv-loop bytes₀ town i₀ bytes i = Unit
 
 abbrev μ-loop : tie.MeasureT-loop
-μ-loop bytes₀ town i₀ bytes i = 32 - i
+μ-loop bytes₀ town i₀ bytes i = 48 - i
 
 loop-holds : tie.Need-loop-holds Inv-loop μ-loop
 loop-holds c = search needs
