@@ -25,7 +25,7 @@ pub fn case_passes(i: usize) -> bool {
 
 // A: rider at 4, weight 1
 fn case_a() -> bool {
-    let town = town(&TOWN, &[0, 3, 1, 4, 1]);
+    let town = town(5, &TOWN, &[0, 3, 1, 4, 1]);
     let table = [
         [6, 2, 3, 1, 4, 1, 0, 0, 5, 2],
         [8, 3, 5, 2, 6, 4, 11, 1, 5, 3],
@@ -43,7 +43,7 @@ fn case_a() -> bool {
 
 // B: rider at 4, weight 10
 fn case_b() -> bool {
-    let town = town(&TOWN, &[0, 3, 1, 4, 10]);
+    let town = town(5, &TOWN, &[0, 3, 1, 4, 10]);
     let table = [
         [6, 2, 3, 1, 4, 1, 0, 0, 5, 2],
         [11, 5, 23, 2, 6, 4, 110, 1, 5, 3],
@@ -61,7 +61,7 @@ fn case_b() -> bool {
 
 // C: rider at 4, weight 2
 fn case_c() -> bool {
-    let town = town(&TOWN, &[0, 3, 1, 4, 2]);
+    let town = town(5, &TOWN, &[0, 3, 1, 4, 2]);
     let table = [
         [6, 2, 3, 1, 4, 1, 0, 0, 5, 2],
         [10, 3, 7, 2, 6, 4, 22, 1, 5, 3],
@@ -79,7 +79,7 @@ fn case_c() -> bool {
 
 // D: a = 2, rider at 4, weight 5
 fn case_d() -> bool {
-    let town = town(&TOWN, &[0, 3, 2, 4, 5]);
+    let town = town(5, &TOWN, &[0, 3, 2, 4, 5]);
     let table = [
         [12, 2, 6, 1, 8, 1, 0, 0, 10, 2],
         [22, 3, 16, 2, 12, 4, 55, 1, 10, 3],
@@ -97,21 +97,21 @@ fn case_d() -> bool {
 
 // E: source = target = 0, no rider
 fn case_e() -> bool {
-    let town = town(&TOWN, &[0, 0, 1]);
+    let town = town(5, &TOWN, &[0, 0, 1]);
     let table = [[0, 0, NONE, 0, NONE, 0, NONE, 0, NONE, 0]];
     passes(b"E", &town, [0, 5, 4], [0, 0], &[], &[], &table)
 }
 
 // F: source 3, target 0, no rider
 fn case_f() -> bool {
-    let town = town(&TOWN, &[3, 0, 1]);
+    let town = town(5, &TOWN, &[3, 0, 1]);
     let table = [[0, 0, NONE, 0, NONE, 0, NONE, 0, NONE, 0]];
     passes(b"F", &town, [0, 5, 4], [24, 0], &[], &[], &table)
 }
 
 // G: rider at 0, weight 1
 fn case_g() -> bool {
-    let town = town(&TOWN, &[0, 3, 1, 0, 1]);
+    let town = town(5, &TOWN, &[0, 3, 1, 0, 1]);
     let table = [
         [6, 2, 3, 1, 4, 1, 0, 0, 5, 2],
         [6, 3, 12, 2, 17, 4, 18, 1, 16, 3],
@@ -129,7 +129,7 @@ fn case_g() -> bool {
 
 // H: rider at 3, weight 1
 fn case_h() -> bool {
-    let town = town(&TOWN, &[0, 3, 1, 3, 1]);
+    let town = town(5, &TOWN, &[0, 3, 1, 3, 1]);
     let table = [
         [6, 2, 3, 1, 4, 1, 0, 0, 5, 2],
         [6, 3, 3, 2, 4, 2, 0, 1, 5, 3],
@@ -147,7 +147,7 @@ fn case_h() -> bool {
 
 // I: riders at 4 and 4, weights 1, 1
 fn case_i() -> bool {
-    let town = town(&TOWN, &[0, 3, 1, 4, 1, 4, 1]);
+    let town = town(5, &TOWN, &[0, 3, 1, 4, 1, 4, 1]);
     let table = [
         [6, 2, 3, 1, 4, 1, 0, 0, 5, 2],
         [8, 3, 5, 2, 6, 4, 11, 1, 5, 3],
@@ -167,7 +167,7 @@ fn case_i() -> bool {
 
 // J: the same, weights 1, 2
 fn case_j() -> bool {
-    let town = town(&TOWN, &[0, 3, 1, 4, 1, 4, 2]);
+    let town = town(5, &TOWN, &[0, 3, 1, 4, 1, 4, 2]);
     let table = [
         [6, 2, 3, 1, 4, 1, 0, 0, 5, 2],
         [8, 3, 5, 2, 6, 4, 11, 1, 5, 3],
@@ -187,7 +187,7 @@ fn case_j() -> bool {
 
 // K: source = target = 0, rider at 3, weight 1
 fn case_k() -> bool {
-    let town = town(&TOWN, &[0, 0, 1, 3, 1]);
+    let town = town(5, &TOWN, &[0, 0, 1, 3, 1]);
     let table = [
         [0, 0, NONE, 0, NONE, 0, NONE, 0, NONE, 0],
         [NONE, 0, NONE, 0, NONE, 0, NONE, 0, NONE, 0],

@@ -9,36 +9,33 @@ pub const CASES: usize = 8;
 // Whether case i passes. Says what is wrong where it does not.
 pub fn case_passes(i: usize) -> bool {
     match i {
-        0 => refuses(b"no node", &town(&EMPTY, &[0, 3, 1, 4, 1]), 4, 0),
-        1 => refuses(b"a stray link", &town(&STRAY, &[0, 3, 1, 4, 1]), 6, 6),
-        2 => refuses(b"a stray link first", &town(&STRAY, &[5, 3, 0, 5, 0]), 6, 6),
-        3 => refuses(b"a stray source", &town(&TOWN, &[5, 5, 0, 5, 0]), 16, 0),
-        4 => refuses(b"a stray target", &town(&TOWN, &[0, 5, 0, 5, 0]), 16, 1),
-        5 => refuses(
-            b"a stray rider",
-            &town(&TOWN, &[0, 3, 0, 4, 0, 5, 1]),
-            16,
-            3,
-        ),
-        6 => refuses(b"a bus of no weight", &town(&TOWN, &[0, 3, 0, 4, 0]), 17, 0),
-        _ => refuses(
-            b"a rider of no weight",
-            &town(&TOWN, &[0, 3, 1, 4, 1, 4, 0]),
-            17,
-            2,
-        ),
+        0 => refuses(b"no node", 0, &[], &[0, 3, 1, 4, 1], [4, 0]),
+        1 => refuses(b"stray link", 5, &STRAY, &[0, 3, 1, 4, 1], [6, 6]),
+        2 => refuses(b"link first", 5, &STRAY, &[5, 3, 0, 5, 0], [6, 6]),
+        3 => refuses(b"stray source", 5, &TOWN, &[5, 5, 0, 5, 0], [16, 0]),
+        4 => refuses(b"stray target", 5, &TOWN, &[0, 5, 0, 5, 0], [16, 1]),
+        5 => refuses(b"stray rider", 5, &TOWN, &[0, 3, 0, 4, 0, 5, 1], [16, 3]),
+        6 => refuses(b"no bus", 5, &TOWN, &[0, 3, 0, 4, 0], [17, 0]),
+        _ => refuses(b"no rider", 5, &TOWN, &[0, 3, 1, 4, 1, 4, 0], [17, 2]),
     }
 }
 
-// Whether the search refuses, without a place lent and with all.
-fn refuses(case: &[u8], town: &[usize; NUMBERS], number: usize, place: usize) -> bool {
-    let right = answer::refused(number, place);
+// Whether the search refuses with a number at a place, without a place lent and with all.
+fn refuses(
+    case: &[u8],
+    n: usize,
+    links: &[[usize; 4]],
+    request: &[usize],
+    refusal: [usize; 2],
+) -> bool {
+    let town = town(n, links, request);
+    let right = answer::refused(refusal[0], refusal[1]);
     let none = Places {
         distances: 0,
         table: 0,
         steps: 0,
     };
-    if !answer::passes(case, 0, &searched(town, none), &right) {
+    if !answer::passes(case, 0, &searched(&town, none), &right) {
         return false;
     }
     let all = Places {
@@ -46,5 +43,5 @@ fn refuses(case: &[u8], town: &[usize; NUMBERS], number: usize, place: usize) ->
         table: TABLE,
         steps: STEPS,
     };
-    answer::passes(case, 1, &searched(town, all), &right)
+    answer::passes(case, 1, &searched(&town, all), &right)
 }

@@ -1,17 +1,17 @@
-// Rows of numbers from a network (n, then from, to, drive and walk of each link) and a request (source, target and bus
-// weight, then node and weight of each rider).
+// Rows of numbers from n, the links of a network, and a request: source, target and bus weight, then node and weight of
+// each rider.
 use trial::inner::*;
 
-pub fn town(network: &[usize], request: &[usize]) -> [usize; NUMBERS] {
+pub fn town(n: usize, links: &[[usize; 4]], request: &[usize]) -> [usize; NUMBERS] {
     let mut town = [0; NUMBERS];
-    town[N] = at(network, 0);
-    town[M] = network.len() / 4;
+    town[N] = n;
+    town[M] = links.len();
     town[SOURCE] = at(request, 0);
     town[TARGET] = at(request, 1);
     town[WEIGHT] = at(request, 2);
     town[COUNT] = riders(request);
-    put(&mut town, RIDERS, request, 3);
-    put(&mut town, LINKS, network, 1);
+    put_riders(&mut town, request);
+    put_links(&mut town, links);
     town
 }
 
@@ -22,22 +22,28 @@ fn riders(request: &[usize]) -> usize {
     (request.len() - 3) / 2
 }
 
-// Puts the numbers from place `from` on.
-fn put(town: &mut [usize; NUMBERS], start: usize, numbers: &[usize], from: usize) {
-    let mut i = start;
-    let mut k = from;
-    while i < NUMBERS {
-        if numbers.len() <= k {
+fn put_riders(town: &mut [usize; NUMBERS], request: &[usize]) {
+    let mut i = 0;
+    while i < 2 * MOST_RIDERS {
+        town[RIDERS + i] = at(request, 3 + i);
+        i += 1;
+    }
+}
+
+fn put_links(town: &mut [usize; NUMBERS], links: &[[usize; 4]]) {
+    let mut i = 0;
+    while i < 4 * MOST_LINKS {
+        if links.len() <= i / 4 {
             return;
         }
-        town[i] = numbers[k];
+        let link = links[i / 4];
+        town[LINKS + i] = link[i % 4];
         i += 1;
-        k += 1;
     }
 }
 
 // The number at place i, or 0.
-pub fn at(numbers: &[usize], i: usize) -> usize {
+fn at(numbers: &[usize], i: usize) -> usize {
     if numbers.len() <= i {
         return 0;
     }

@@ -1,142 +1,59 @@
-// The networks of the cases: n, then from, to, drive and walk of each link.
+// The links of the cases' networks: from, to, drive and walk of each.
 const CLOSED: usize = 65535;
 
-pub const TOWN: [usize; 33] = [
-    5,
-    0,
-    1,
-    3,
-    9,
-    1,
-    3,
-    3,
-    9,
-    0,
-    2,
-    5,
-    CLOSED,
-    2,
-    3,
-    4,
-    9,
-    4,
-    1,
-    CLOSED,
-    2,
-    4,
-    2,
-    1,
-    6,
-    1,
-    4,
-    CLOSED,
-    2,
-    2,
-    4,
-    1,
-    6,
+pub const TOWN: [[usize; 4]; 8] = [
+    [0, 1, 3, 9],
+    [1, 3, 3, 9],
+    [0, 2, 5, CLOSED],
+    [2, 3, 4, 9],
+    [4, 1, CLOSED, 2],
+    [4, 2, 1, 6],
+    [1, 4, CLOSED, 2],
+    [2, 4, 1, 6],
 ];
 
-pub const BEYOND_TARGET: [usize; 13] = [3, 0, 1, 1, CLOSED, 1, 2, 1, CLOSED, 2, 1, 1, CLOSED];
-
-pub const TWO_LINKS: [usize; 9] = [2, 0, 1, 1, 1, 0, 1, 1, 1];
-
-pub const NEAR_TWICE: [usize; 13] = [3, 0, 1, 1, CLOSED, 2, 0, CLOSED, 1, 2, 1, CLOSED, 1];
-
-pub const ONE_FOR_TWO: [usize; 13] = [3, 0, 1, 1, 1, 1, 2, 1, 1, 0, 2, 2, 2];
-
-pub const OFF_THE_ROAD: [usize; 9] = [3, 0, 1, 1, CLOSED, 2, 1, CLOSED, 1];
-
-pub const WIDE_COSTS: [usize; 13] = [
-    3,
-    0,
-    1,
-    50000,
-    CLOSED,
-    0,
-    2,
-    20000,
-    CLOSED,
-    2,
-    1,
-    20000,
-    CLOSED,
+pub const BEYOND_TARGET: [[usize; 4]; 3] = [
+    [0, 1, 1, CLOSED],
+    [1, 2, 1, CLOSED],
+    [2, 1, 1, CLOSED],
 ];
 
-pub const CLOSED_WALK: [usize; 5] = [2, 1, 0, CLOSED, CLOSED];
+pub const TWO_LINKS: [[usize; 4]; 2] = [[0, 1, 1, 1], [0, 1, 1, 1]];
 
-pub const WALL_OPENED: [usize; 33] = [
-    5,
-    0,
-    1,
-    3,
-    9,
-    1,
-    3,
-    3,
-    9,
-    0,
-    2,
-    5,
-    CLOSED,
-    2,
-    3,
-    4,
-    9,
-    4,
-    1,
-    2,
-    2,
-    4,
-    2,
-    1,
-    6,
-    1,
-    4,
-    2,
-    2,
-    2,
-    4,
-    1,
-    6,
+pub const NEAR_TWICE: [[usize; 4]; 3] = [[0, 1, 1, CLOSED], [2, 0, CLOSED, 1], [2, 1, CLOSED, 1]];
+
+pub const ONE_FOR_TWO: [[usize; 4]; 3] = [[0, 1, 1, 1], [1, 2, 1, 1], [0, 2, 2, 2]];
+
+pub const OFF_THE_ROAD: [[usize; 4]; 2] = [[0, 1, 1, CLOSED], [2, 1, CLOSED, 1]];
+
+pub const WIDE_COSTS: [[usize; 4]; 3] = [
+    [0, 1, 50000, CLOSED],
+    [0, 2, 20000, CLOSED],
+    [2, 1, 20000, CLOSED],
 ];
 
-pub const LONE: [usize; 1] = [1];
+pub const CLOSED_WALK: [[usize; 4]; 1] = [[1, 0, CLOSED, CLOSED]];
 
-pub const STRAY: [usize; 33] = [
-    5,
-    0,
-    1,
-    3,
-    9,
-    1,
-    3,
-    3,
-    9,
-    0,
-    2,
-    5,
-    CLOSED,
-    2,
-    3,
-    4,
-    9,
-    4,
-    1,
-    CLOSED,
-    2,
-    4,
-    2,
-    1,
-    6,
-    1,
-    5,
-    CLOSED,
-    2,
-    2,
-    5,
-    1,
-    6,
+pub const WALL_OPENED: [[usize; 4]; 8] = [
+    [0, 1, 3, 9],
+    [1, 3, 3, 9],
+    [0, 2, 5, CLOSED],
+    [2, 3, 4, 9],
+    [4, 1, 2, 2],
+    [4, 2, 1, 6],
+    [1, 4, 2, 2],
+    [2, 4, 1, 6],
 ];
 
-pub const EMPTY: [usize; 1] = [0];
+pub const DEAREST: [[usize; 4]; 2] = [[0, 1, 65534, CLOSED], [2, 1, CLOSED, 65534]];
+
+pub const STRAY: [[usize; 4]; 8] = [
+    [0, 1, 3, 9],
+    [1, 3, 3, 9],
+    [0, 2, 5, CLOSED],
+    [2, 3, 4, 9],
+    [4, 1, CLOSED, 2],
+    [4, 2, 1, 6],
+    [1, 5, CLOSED, 2],
+    [2, 5, 1, 6],
+];

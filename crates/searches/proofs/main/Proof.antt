@@ -10,7 +10,7 @@ abbrev Inv-loop : tie.InvT-loop
 Inv-loop i₀ t2 i = Unit
 
 abbrev μ-loop : tie.MeasureT-loop
-μ-loop i₀ t2 i = 28 - i
+μ-loop i₀ t2 i = 29 - i
 
 loop-holds : tie.Need-loop-holds Inv-loop μ-loop
 loop-holds c = search needs
