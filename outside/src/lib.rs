@@ -1,0 +1,18 @@
+//! Document 01 a second time, in plain Rust and by other means than the crates, and the cases by which the two are
+//! compared.
+
+pub mod call;
+pub mod damage;
+pub mod desk_cases;
+pub mod host;
+pub mod least;
+pub mod listing;
+pub mod memory;
+pub mod price;
+pub mod random;
+pub mod record;
+pub mod search;
+pub mod shapes;
+pub mod tally;
+pub mod town;
+pub mod walk;
