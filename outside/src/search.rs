@@ -1,7 +1,7 @@
 //! The search for the right plan.
 
 use crate::least::{added, least_sums, Sum};
-use crate::record::{read_both, refuse_if, Answer, Network, Request};
+use crate::record::{read_both, refuse_if, Answer, Network, Refusal, Request};
 use crate::walk::{fill, walks_from};
 
 /// The steps below this one meet a rider; the others drive a link.
@@ -40,11 +40,9 @@ pub fn search(
     for (place, finish) in table.iter_mut().zip(&planner.finishes) {
         *place = finish.map_or(u64::MAX, |(cost, steps)| STEP_RANGE * cost + steps);
     }
-    let plan = planner.first_plan();
-    refuse_if(plan.is_none(), 24)?;
-    let plan = plan.unwrap_or_default();
+    let (sum, plan) = planner.first_plan().ok_or(Refusal { number: 24, place: 0 })?;
     steps[..plan.len()].copy_from_slice(&plan);
-    Ok(planner.finishes[planner.start()].unwrap_or_default())
+    Ok(sum)
 }
 
 /// A place of the table is a state of the bus: R·n + v stands for node v with the riders of R still to be met.
@@ -61,10 +59,6 @@ impl<'a> Planner<'a> {
         let mut planner = Planner { network, request, walks, finishes: Vec::new() };
         planner.finishes = planner.least_finishes();
         planner
-    }
-
-    fn start(&self) -> usize {
-        self.network.n * ((1 << self.request.riders.len()) - 1) + self.request.source
     }
 
     /// Where a step leads from a place, and its cost; none if the step can't be taken there.
@@ -103,16 +97,16 @@ impl<'a> Planner<'a> {
     }
 
     /// The right plan, step by step: always the lowest step that a best finish can begin with.
-    fn first_plan(&self) -> Option<Vec<u16>> {
-        let mut place = self.start();
+    fn first_plan(&self) -> Option<(Sum, Vec<u16>)> {
+        let mut place = self.network.n * ((1 << self.request.riders.len()) - 1) + self.request.source;
         let mut plan = Vec::new();
-        self.finishes[place]?;
+        let sum = self.finishes[place]?;
         while self.finishes[place] != Some((0, 0)) {
             let (step, next) = self.lowest_best_step(place);
             plan.push(step as u16);
             place = next;
         }
-        Some(plan)
+        Some((sum, plan))
     }
 
     fn lowest_best_step(&self, place: usize) -> (usize, usize) {

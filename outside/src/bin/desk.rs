@@ -4,7 +4,7 @@
 use outside::call::Call;
 use outside::host::{Answers, Host};
 use outside::memory::Memory;
-use outside::record::{read_both, Answer, MOST_RIDERS};
+use outside::record::{read_both, Answer, MOST_LINKS, MOST_NODES, MOST_RIDERS};
 use outside::search::{FIRST_DRIVE, STEP_RANGE};
 use outside::tally::Tally;
 use outside::{desk_cases, listing, town};
@@ -17,6 +17,15 @@ use std::{env, thread};
 const CASES: u64 = 60_000;
 /// How often each outcome must have occurred.
 const LEAST: usize = 10;
+
+/// Plans that must have occurred as often.
+const PLAN_KINDS: [&str; 5] = [
+    "plan without a step",
+    "plan that drives on from the target",
+    "plan that leaves a node twice",
+    "plan that costs more than 32 bits hold",
+    "plan with all limits reached",
+];
 
 fn main() {
     let command: Vec<String> = env::args().skip(1).collect();
@@ -69,13 +78,20 @@ fn compare_call(case: u64, call: Call, answers: &mut Answers, tally: &mut Tally)
     let (theirs, after) = answers.next(before.bytes.len())?;
     let difference = match ours == theirs {
         true => Memory::of(&answered, case).difference(&after),
-        false => Some(format!("the answer is {theirs:#X} instead of {ours:#X}")),
+        false => Some(format!("{} instead of {}", shown(theirs), shown(ours))),
     };
     if let Some(difference) = difference {
         return Err(format!("call {case}, {}: {difference}\n{}", answered.name(), before.shown()).into());
     }
     note(tally, &answered, answer);
     Ok(())
+}
+
+fn shown(answer: u64) -> String {
+    match answer.checked_sub(1 << 63) {
+        Some(refusal) => format!("refused {} at {}", refusal % 65_536, refusal / 65_536),
+        None => format!("answered {answer}"),
+    }
 }
 
 fn note(tally: &mut Tally, call: &Call, answer: Answer<u64>) {
@@ -94,16 +110,14 @@ fn note_plan(tally: &mut Tally, network: &[u8], request: &[u8], steps: &[u16], c
     let nodes: Vec<usize> = [request.source].into_iter().chain(links.map(|k| network.links[k].to)).collect();
     let left = &nodes[..nodes.len() - 1];
     tally.add(format!("search granted for {} riders", request.riders.len()));
-    let kinds = [
-        ("without a step", steps.is_empty()),
-        ("that drives on from the target", left.contains(&request.target)),
-        ("that passes another node twice", (1..left.len()).any(|i| left[..i].contains(&left[i]))),
-        ("that costs more than 32 bits hold", cost >= 1 << 32),
-        ("with all limits reached", network.n == 512 && network.links.len() == 2_048 && request.riders.len() == 7),
-    ];
-    for (kind, _) in kinds.into_iter().filter(|(_, is)| *is) {
-        tally.add(format!("plan {kind}"));
-    }
+    let kinds = PLAN_KINDS.into_iter().zip([
+        steps.is_empty(),
+        left.contains(&request.target),
+        (1..left.len()).any(|i| left[..i].contains(&left[i])),
+        cost >= 1 << 32,
+        network.n == MOST_NODES && network.links.len() == MOST_LINKS && request.riders.len() == MOST_RIDERS,
+    ]);
+    kinds.filter(|(_, is)| *is).for_each(|(kind, _)| tally.add(kind.into()));
 }
 
 /// All that must occur.
@@ -123,12 +137,5 @@ fn outcomes() -> Vec<String> {
     });
     let granted = ["network", "request", "walk", "price", "tablet"].map(|name| format!("{name} granted"));
     let planned = (0..=MOST_RIDERS).map(|l| format!("search granted for {l} riders"));
-    let kinds = [
-        "plan without a step",
-        "plan that drives on from the target",
-        "plan that passes another node twice",
-        "plan that costs more than 32 bits hold",
-        "plan with all limits reached",
-    ];
-    refused.chain(granted).chain(planned).chain(kinds.map(String::from)).collect()
+    refused.chain(granted).chain(planned).chain(PLAN_KINDS.map(String::from)).collect()
 }

@@ -1,7 +1,9 @@
-//! Compares what the program `plan` prints with the rules, byte for byte. Its arguments are the command that runs `plan`.
+//! Compares what the program `plan` prints with the rules, byte for byte.
+//! Its arguments are the command that runs `plan`.
 
-use outside::plan_cases::{input, Input};
-use outside::program::output;
+use outside::plan_cases::input;
+use outside::program::{output, MOST_INPUT};
+use outside::record::number;
 use outside::tally::Tally;
 use outside::town;
 use std::error::Error;
@@ -21,6 +23,15 @@ const PAUSE: Duration = Duration::from_millis(10);
 
 const CASE_A: &str = "ok 8 3\ndrive 0 0 1\nmeet 0 1 2\ndrive 1 1 3\n";
 
+/// Inputs that must have occurred as well.
+const INPUT_KINDS: [&str; 5] = [
+    "input too short to state a length",
+    "input longer than what is taken",
+    "stated length under 9",
+    "stated length beyond the input",
+    "input in pieces",
+];
+
 fn main() {
     let command: Vec<String> = env::args().skip(1).collect();
     match compare(&command) {
@@ -35,46 +46,66 @@ fn main() {
 fn compare(command: &[String]) -> Result<(), String> {
     check_case_a(command)?;
     let work = |worker| (worker..CASES).step_by(WORKERS as usize).map(|case| compare_case(command, case)).collect();
-    let outcomes: Vec<Result<Vec<String>, String>> = thread::scope(|scope| {
+    let occurred: Vec<Result<Vec<_>, String>> = thread::scope(|scope| {
         let workers: Vec<_> = (0..WORKERS).map(|worker| scope.spawn(move || work(worker))).collect();
         workers.into_iter().map(|worker| worker.join().expect("no worker fails")).collect()
     });
     let mut tally = Tally::default();
-    for outcome in outcomes {
-        outcome?.into_iter().for_each(|outcome| tally.add(outcome));
+    for cases in occurred {
+        cases?.into_iter().flatten().for_each(|what| tally.add(what));
     }
-    tally.check(&all_outcomes(), LEAST)
+    tally.check(&outcomes(), LEAST)
 }
 
 fn check_case_a(command: &[String]) -> Result<(), String> {
     let request = town::request(0, 3, 1, &[(4, 1)]).record();
-    let bytes = [town::network().record(), request].concat();
-    if output(&bytes) != CASE_A {
+    let input = [town::network().record(), request].concat();
+    if output(&input) != CASE_A {
         return Err("the rules print something else for case A".into());
     }
-    compare_input(command, Input { pieces: vec![bytes.clone()], bytes }).map(|_| ())
+    compare_input(command, vec![input]).map(|_| ())
 }
 
-/// Gives the outcome, if `plan` prints what it should.
-fn compare_case(command: &[String], case: u64) -> Result<String, String> {
+/// Says what occurred, if `plan` prints what it should.
+fn compare_case(command: &[String], case: u64) -> Result<Vec<String>, String> {
     compare_input(command, input(case)).map_err(|difference| format!("plan, case {case}: {difference}"))
 }
 
-fn compare_input(command: &[String], input: Input) -> Result<String, String> {
-    let expected = output(&input.bytes);
-    let shown: String = input.bytes.iter().take(200).map(|byte| format!("{byte:02X}")).collect();
-    let input_shown = format!("input of {} bytes: {shown}", input.bytes.len());
-    let run = run(command, input.pieces).map_err(|error| error.to_string())?;
-    let printed = String::from_utf8_lossy(&run.stdout);
-    if !run.status.success() || !run.stderr.is_empty() {
-        let errors = String::from_utf8_lossy(&run.stderr);
-        return Err(format!("ended with {} and said {errors:?}; {input_shown}", run.status));
+fn compare_input(command: &[String], pieces: Vec<Vec<u8>>) -> Result<Vec<String>, String> {
+    let input = pieces.concat();
+    let expected = output(&input);
+    let occurred = kinds(&input, pieces.len(), &expected);
+    let run = run(command, pieces).map_err(|error| error.to_string())?;
+    if run.status.success() && run.stderr.is_empty() && run.stdout == expected.as_bytes() {
+        return Ok(occurred);
     }
-    if printed != expected {
-        return Err(format!("printed {printed:?} instead of {expected:?}; {input_shown}"));
-    }
-    let words: Vec<&str> = expected.split_whitespace().take(2).collect();
-    Ok(if words[0] == "ok" { "ok".into() } else { words.join(" ") })
+    let shown: String = input.iter().take(200).map(|byte| format!("{byte:02X}")).collect();
+    let [printed, errors] = [&run.stdout, &run.stderr].map(|text| String::from_utf8_lossy(text));
+    Err(format!(
+        "{}, printed {printed:?} instead of {expected:?} and {errors:?} as errors\n  input ({} bytes): {shown}",
+        run.status,
+        input.len()
+    ))
+}
+
+fn kinds(input: &[u8], pieces: usize, printed: &str) -> Vec<String> {
+    let stated = input.get(1..5).map(number);
+    let words: Vec<&str> = printed.split_whitespace().take(2).collect();
+    let outcome = if words[0] == "ok" { "ok".into() } else { words.join(" ") };
+    let kinds = INPUT_KINDS.into_iter().zip([
+        stated.is_none(),
+        input.len() > MOST_INPUT,
+        stated.is_some_and(|stated| stated < 9),
+        stated.is_some_and(|stated| stated > input.len()),
+        pieces > 1,
+    ]);
+    kinds.filter(|(_, is)| *is).map(|(kind, _)| kind.into()).chain([outcome]).collect()
+}
+
+/// All that must occur.
+fn outcomes() -> Vec<String> {
+    let refusals = (1..=6).chain(11..=17).chain([22, 24]).map(|number| format!("refused {number}"));
+    refusals.chain(["ok".into()]).chain(INPUT_KINDS.map(String::from)).collect()
 }
 
 fn run(command: &[String], pieces: Vec<Vec<u8>>) -> Result<process::Output, Box<dyn Error>> {
@@ -102,9 +133,4 @@ fn hand_over(mut stdin: ChildStdin, pieces: Vec<Vec<u8>>) -> io::Result<()> {
         }
     }
     Ok(())
-}
-
-fn all_outcomes() -> Vec<String> {
-    let refusals = (1..=6).chain(11..=17).chain([22, 24]).map(|number| format!("refused {number}"));
-    refusals.chain(["ok".into()]).collect()
 }
