@@ -16,7 +16,7 @@ use std::{env, thread};
 
 const CASES: u64 = 60_000;
 /// How often each outcome must have occurred.
-const LEAST: usize = 10;
+const LEAST: usize = 40;
 
 /// Plans that must have occurred as often.
 const PLAN_KINDS: [&str; 5] = [
