@@ -1,10 +1,13 @@
 -- The program `plan`: how it parts its input, and what it prints.
 use Prim.Native.Nat.{ℕ, zero, suc, _+_, _-_, _*_, _/_, _%_}
+use mathlib.Core.Path.{_≡_}
 use mathlib.Core.Bool.{_||_, cond}
 use mathlib.Core.List.{List, [], _∷_, _++_}
-use lib.ListN.{length, getD, take, drop}
+use lib.ListN.{length, getD, take, drop, replicate}
 use lib.Dec.{ltb}
 use Rattle.rules.specs.Network.{statedLength, nodeCount, from, to}
+use Rattle.rules.specs.Request.{source}
+use Rattle.rules.specs.Answers.{Lent, Searched}
 use Rattle.rules.specs.declared.Planned.{Planned}
 use Rattle.rules.specs.declared.Planned.the-variants.{Plan as Found, Refused as NotPlanned}
 
@@ -22,14 +25,8 @@ abbrev pub requestPart : List ℕ → List ℕ
 requestPart input = drop (networkSize (taken input)) (taken input)
 
 -- "It has 2,048 table places and full room otherwise."
-abbrev pub programDistances : ℕ
-programDistances = 7 * 512
-
-abbrev pub programTable : ℕ
-programTable = 2048
-
-abbrev pub programSteps : ℕ
-programSteps = 4095
+abbrev pub programRooms : Lent
+programRooms = record { distances = replicate (7 * 512) 0; table = replicate 2048 0; steps = replicate 4095 0 }
 
 -- "Numbers are decimal": the digits of a number below 10 ^ (places + 1), with no zero in front
 unfoldable pub digits : ℕ → ℕ → List ℕ
@@ -81,3 +78,13 @@ unfoldable pub printed : List ℕ → ℕ → Planned → List ℕ → List ℕ 
 printed network source (Found cost count) distances steps =
     line okWord (cost ∷ count ∷ []) ++ stepLines network distances source (take count steps)
 printed network source (NotPlanned r) distances steps = line refusedWord (r .number ∷ r .place ∷ [])
+
+-- The text of the program for two records: what the search answers in these rooms, and the steps and distances that it leaves there.
+pub record PlanText (network request text : List ℕ) : Type 0 where
+  pub answer : Planned
+  pub after : Lent
+  pub searched : Searched network request programRooms after answer
+  pub says : text ≡ printed network (source request) answer (after .distances) (after .steps)
+
+abbrev pub ProgramText : List ℕ → List ℕ → Type 0
+ProgramText input text = PlanText (networkPart input) (requestPart input) text

@@ -1,0 +1,30 @@
+-- Text in a room.
+use Prim.Native.Nat.{ℕ, _+_, _*_, _<_, _≤_}
+use mathlib.Core.Path.{_≡_}
+use mathlib.Core.List.{List, _++_}
+use lib.ListN.{length, take, drop}
+use Rattle.rules.specs.Program.{PlanText, ProgramText}
+use Rattle.rules.specs.Rooms.{Written}
+
+-- one line for the plan and one for each of its steps, of at most 96 bytes
+abbrev pub textPlaces : ℕ
+textPlaces = 96 * 4096
+
+-- The text was written from a place on, up to its end. All else is as it was.
+pub record Put (at : ℕ) (text before after : List ℕ) (end : ℕ) : Type 0 where
+  pub size : length after ≡ length before
+  pub ends : end ≡ at + length text
+  pub within : end ≤ length before
+  pub says : take end after ≡ take at before ++ text
+  pub later : drop end after ≡ drop end before
+
+-- The text of the program for two records was written at the start of the room.
+pub record PutPlan (network request before after : List ℕ) (end : ℕ) : Type 0 where
+  pub text : List ℕ
+  pub tells : PlanText network request text
+  pub put : Put 0 text before after end
+
+-- What the program prints is written at the start of the room, and its length is told; a room of too few places is left as it was, and 0 is told, which is no text's length.
+pub data Printed (input before after : List ℕ) (count : ℕ) : Type 0 where
+  short : length before < textPlaces → after ≡ before → count ≡ 0 → Printed input before after count
+  whole : (text : List ℕ) → textPlaces ≤ length before → ProgramText input text → Written text before after → count ≡ length text → Printed input before after count
