@@ -21,7 +21,7 @@ use Rattle.rules.specs.declared.Priced.the-variants.{Price as Costs, Ref
 use Rattle.rules.specs.declared.Planned.{Planned}
 use Rattle.rules.specs.declared.Planned.the-variants.{Plan as Found, Refused as NotPlanned}
 
--- 41, 42: walking entry: start of n or more; slice under n
+-- 41, 42: "walking entry: start of n or more; slice under n"
 abbrev pub walkChecks : List ℕ → ℕ → ℕ → List Check
 walkChecks network start room =
     networkChecks network
@@ -36,7 +36,7 @@ pub record Walked (network : List ℕ) (start : ℕ) (before after : List ℕ) (
   pub kept : Kept (beside answer (nodeCount network) 0) before after
 
 -- How a route is priced, once the verdict on all that can be read off the records and the route is known: the answer, and the meeting positions that it comes with.
--- 37: pricing: a rider reaches no position (place: lowest rider)
+-- 37: "pricing: a rider reaches no position (place: lowest rider)"
 pub data Pricing (verdict : Verdict) (network : List ℕ) (q : Request) (route : List ℕ) (answer : Priced) (meetings : List ℕ) : Type 0 where
   refused :
       (r : Refusal)
@@ -61,7 +61,7 @@ pub data Pricing (verdict : Verdict) (network : List ℕ) (q : Request) (route :
       → answer ≡ Costs price
       → Pricing verdict network q route answer meetings
 
--- 31: pricing: meeting slice under l
+-- 31: "pricing: meeting slice under l"
 abbrev pub priceChecks : List ℕ → List ℕ → List ℕ → ℕ → List Check
 priceChecks network request route room =
     recordChecks network request
@@ -82,7 +82,7 @@ linksFrom bytes (suc count) i = two bytes (2 * i) ∷ linksFrom bytes count (suc
 unfoldable pub routeOf : List ℕ → List ℕ
 routeOf bytes = linksFrom bytes (length bytes / 2) 0
 
--- 38: tablet: odd number of route bytes. "The order is records, 38, 32 to 37; 31 doesn't arise."
+-- 38: "tablet: odd number of route bytes". "The order is records, 38, 32 to 37; 31 doesn't arise."
 abbrev pub tabletChecks : List ℕ → List ℕ → List ℕ → List Check
 tabletChecks network request bytes =
     recordChecks network request
@@ -100,7 +100,7 @@ pub record Tablet (network request bytes : List ℕ) (number : ℕ) : Type 0 whe
   pub pricing : Pricing (firstOf (tabletChecks network request bytes)) network (requestValue request) (routeOf bytes) answer meetings
   pub tells : number ≡ tabletNumber answer
 
--- 21, 22, 23: search: distances under l·n; table under 2^l·n; steps under l+(l+1)(n-1)
+-- 21, 22, 23: "search: distances under l·n; table under 2^l·n; steps under l+(l+1)(n-1)"
 abbrev pub roomChecks : ℕ → ℕ → ℕ → ℕ → ℕ → List Check
 roomChecks n l distances table steps =
     check 21 0 (ltb distances (distancePlaces n l)) ∷ check 22 0 (ltb table (tablePlaces n l)) ∷ check 23 0 (ltb steps (stepPlaces n l)) ∷ []
@@ -116,7 +116,7 @@ pub record Lent : Type 0 where
   pub steps : List ℕ
 
 -- "Every refusal leaves all lent memory unchanged, except 24: it fills distances and table as above and leaves the steps room."
--- 24: search: no plan exists
+-- 24: "search: no plan exists"
 pub data Searching (verdict : Verdict) (network : List ℕ) (q : Request) (before after : Lent) (answer : Planned) : Type 0 where
   refused : (r : Refusal) → verdict ≡ NotAccepted r → answer ≡ NotPlanned r → after ≡ before → Searching verdict network q before after answer
   hopeless :

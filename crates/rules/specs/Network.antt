@@ -18,8 +18,8 @@ version s = byte s 0
 abbrev pub statedLength : ℕ → List ℕ → ℕ
 statedLength size s = number size s 1
 
--- 1, 2, 3: network under 9 bytes; version not 1; stated length differs from the slice's
--- 11, 12, 13: the same three for the request
+-- 1, 2, 3: "network under 9 bytes; version not 1; stated length differs from the slice's"
+-- 11, 12, 13: "the same three for the request"
 unfoldable pub openingChecks : ℕ → ℕ → List ℕ → List Check
 openingChecks lowest size s =
     check lowest 0 (ltb (length s) 9)
@@ -52,14 +52,14 @@ walk s k = two s (linkStart k + 6)
 abbrev pub closed : ℕ
 closed = 65535
 
--- 4, 5: n or m beyond its limit; length not 9+8m
+-- 4, 5: "n or m beyond its limit; length not 9+8m"
 unfoldable pub sizeChecks : List ℕ → List Check
 sizeChecks s =
     check 4 0 (outside 1 512 (nodeCount s) || outside 0 2048 (linkCount s))
     ∷ check 5 0 (differ (length s) (linkStart (linkCount s)))
     ∷ []
 
--- 6: a link names a node of n or more (place: lowest such link)
+-- 6: "a link names a node of n or more (place: lowest such link)"
 abbrev pub linkBeyond : List ℕ → ℕ → Bool
 linkBeyond s k = leb (nodeCount s) (from s k) || leb (nodeCount s) (to s k)
 

@@ -33,12 +33,12 @@ riderNode s j = two s (riderStart j)
 abbrev pub riderWeight : List ℕ → ℕ → ℕ
 riderWeight s j = byte s (riderStart j + 2)
 
--- 14, 15: count above 7; length not 9+3l
+-- 14, 15: "count above 7; length not 9+3l"
 unfoldable pub countChecks : List ℕ → List Check
 countChecks s =
     check 14 0 (ltb 7 (riderCount s)) ∷ check 15 0 (differ (length s) (riderStart (riderCount s))) ∷ []
 
--- 16: a node of n or more (place: 0 source, 1 target, 2+j rider; lowest)
+-- 16: "a node of n or more (place: 0 source, 1 target, 2+j rider; lowest)"
 abbrev pub nodeCheck : ℕ → ℕ → ℕ → Check
 nodeCheck n place node = check 16 place (leb n node)
 
@@ -49,7 +49,7 @@ unfoldable pub nodeChecks : ℕ → List ℕ → List Check
 nodeChecks n s =
     nodeCheck n 0 (source s) ∷ nodeCheck n 1 (target s) ∷ each (riderNodeChecks n s) (riderCount s) 0
 
--- 17: a weight outside 1 to 100 (place: 0 bus, 1+j rider; lowest)
+-- 17: "a weight outside 1 to 100 (place: 0 bus, 1+j rider; lowest)"
 abbrev pub weightCheck : ℕ → ℕ → Check
 weightCheck place weight = check 17 place (outside 1 100 weight)
 

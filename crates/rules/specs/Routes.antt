@@ -59,7 +59,7 @@ pub record Price (network : List ℕ) (q : Request) (route : List ℕ) (meetings
 abbrev pub Stranded : List ℕ → Request → List ℕ → ℕ → Type 0
 Stranded network q route j = (position d : ℕ) → position ≤ length route → RiderWalks network q j (nodeAt network (q .source) route position) d → ⊥
 
--- 33, 34, 35: pricing, at the lowest bad link of the route (place: its index in the route, from 0): link of m or more; closed to the bus; doesn't start where the route stands
+-- 33, 34, 35: "pricing, at the lowest bad link of the route (place: its index in the route, from 0): link of m or more; closed to the bus; doesn't start where the route stands"
 abbrev pub drivenLinkChecks : List ℕ → ℕ → ℕ → ℕ → List Check
 drivenLinkChecks network stands k i =
     check 33 i (leb (linkCount network) k)
@@ -70,8 +70,8 @@ drivenLinkChecks network stands k i =
 abbrev pub routeLinkChecks : List ℕ → Request → List ℕ → ℕ → List Check
 routeLinkChecks network q route i = drivenLinkChecks network (nodeAt network (q .source) route i) (getD route i 0) i
 
--- 32: pricing: route over 4,095 links
--- 36: pricing: doesn't end at the target
+-- 32: "pricing: route over 4,095 links"
+-- 36: "pricing: doesn't end at the target"
 unfoldable pub routeChecks : List ℕ → Request → List ℕ → List Check
 routeChecks network q route =
     check 32 0 (ltb 4095 (length route))

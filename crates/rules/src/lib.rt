@@ -35,7 +35,7 @@ pub struct NetworkRead {
     pub m: usize,
 }
 
-// A request with its seven rider places; unused places are zero.
+// A request as one value: what its record says, and zeros where it has no rider.
 pub struct Request {
     pub source: usize,
     pub target: usize,
@@ -57,7 +57,7 @@ pub enum Priced {
     Refused(Refusal),
 }
 
-// The answer of the search: a cost with its step count, or a refusal with its place.
+// What the search answers: what the plan costs and how many steps it has, or why there is none.
 pub enum Planned {
     Plan { cost: u64, steps: usize },
     Refused(Refusal),

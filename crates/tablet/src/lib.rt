@@ -10,7 +10,7 @@ use rules::Verdict;
 ghost use Rattle.rules.specs.Answers.{Tablet};
 ghost use Rattle.tablet.specs.Answer.{Answered};
 
-// The price of a route handed over as bytes, two for each link, high byte first; or 2^63 plus the refusal number.
+// Prices a route whose link numbers come as bytes, the high one first. From 2^63 on, the answer is a refusal's number.
 #[no_mangle]
 pub extern "C" fn tivelgor_tablet_price(network: &[u8], request: &[u8], route: &[u8]) -> u64
     ensures { λ r. ⌜ Tablet (now (network .entry)) (now (request .entry)) (now (route .entry)) r ⌝ }
