@@ -1,4 +1,4 @@
-// Cases of our own: each but the last two is one that a wrong planner misses which gets all of A to K right.
+// Cases of our own. Most are such that a wrong planner misses them which gets all of A to K right.
 use crate::answer::NONE;
 use crate::rooms::passes;
 use crate::rows::town;
