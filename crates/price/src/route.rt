@@ -1,8 +1,8 @@
 // A route: its refusals 32 to 36, and what driving it costs.
 use records::inner::drive;
 use records::inner::from;
+use records::inner::link_count;
 use records::inner::to;
-use records::inner::two;
 use rules::Request;
 use rules::Verdict;
 use rules::refused;
@@ -52,7 +52,7 @@ fn link_verdict(network: &[u8], node: usize, k: usize, i: usize) -> Verdict
     requires { ⌜ SoundNetwork (now network) ⌝ }
     ensures { λ r. ⌜ r ≡ firstOf (drivenLinkChecks (now (network .entry)) node k i) ⌝ }
 {
-    if two(network, 7) <= k {
+    if link_count(network) <= k {
         return refused(33, i);
     }
     let cost = drive(network, k);

@@ -3,7 +3,8 @@ ghost use Prim.Native.Nat.{_+_, _<_, _≤_};
 ghost use mathlib.Core.Path.{_≡_};
 ghost use lib.ListN.{length};
 ghost use Rattle.rules.specs.Numbers;
-ghost use Rattle.rules.specs.Network.{linkStart, from, to, drive, walk};
+ghost use Rattle.rules.specs.Network.{nodeCount, linkCount, linkStart, from, to, drive, walk};
+ghost use Rattle.rules.specs.Request.{source, target, busWeight, riderCount, riderStart, riderNode, riderWeight};
 ghost use Rattle.records.specs.Inner.{Is};
 
 // The byte at i.
@@ -36,6 +37,22 @@ pub fn two(s: &[u8], i: usize) -> usize
     256 * byte(s, i) + byte(s, i + 1)
 }
 
+// How many nodes the network has.
+pub fn node_count(network: &[u8]) -> usize
+    requires { ⌜ 9 ≤ length (now network) ⌝ }
+    ensures { λ r. ⌜ Is (nodeCount (now (network .entry))) 65536 r ⌝ }
+{
+    two(network, 5)
+}
+
+// How many links the network has.
+pub fn link_count(network: &[u8]) -> usize
+    requires { ⌜ 9 ≤ length (now network) ⌝ }
+    ensures { λ r. ⌜ Is (linkCount (now (network .entry))) 65536 r ⌝ }
+{
+    two(network, 7)
+}
+
 // The node that link k starts at.
 pub fn from(network: &[u8], k: usize) -> usize
     requires { ⌜ linkStart k + 8 ≤ length (now network) ⌝ }
@@ -66,4 +83,52 @@ pub fn walk(network: &[u8], k: usize) -> u32
     ensures { λ r. ⌜ Is (walk (now (network .entry)) k) 65536 r ⌝ }
 {
     two(network, 9 + 8 * k + 6) as u32
+}
+
+// The request's source.
+pub fn request_source(request: &[u8]) -> usize
+    requires { ⌜ 9 ≤ length (now request) ⌝ }
+    ensures { λ r. ⌜ Is (source (now (request .entry))) 65536 r ⌝ }
+{
+    two(request, 3)
+}
+
+// The request's target.
+pub fn request_target(request: &[u8]) -> usize
+    requires { ⌜ 9 ≤ length (now request) ⌝ }
+    ensures { λ r. ⌜ Is (target (now (request .entry))) 65536 r ⌝ }
+{
+    two(request, 5)
+}
+
+// The bus weight.
+pub fn bus_weight(request: &[u8]) -> usize
+    requires { ⌜ 9 ≤ length (now request) ⌝ }
+    ensures { λ r. ⌜ Is (busWeight (now (request .entry))) 256 r ⌝ }
+{
+    byte(request, 7)
+}
+
+// How many riders the request has.
+pub fn rider_count(request: &[u8]) -> usize
+    requires { ⌜ 9 ≤ length (now request) ⌝ }
+    ensures { λ r. ⌜ Is (riderCount (now (request .entry))) 256 r ⌝ }
+{
+    byte(request, 8)
+}
+
+// The node of rider j.
+pub fn rider_node(request: &[u8], j: usize) -> usize
+    requires { ⌜ riderStart j + 3 ≤ length (now request) ⌝ }
+    ensures { λ r. ⌜ Is (riderNode (now (request .entry)) j) 65536 r ⌝ }
+{
+    two(request, 9 + 3 * j)
+}
+
+// The weight of rider j.
+pub fn rider_weight(request: &[u8], j: usize) -> usize
+    requires { ⌜ riderStart j + 3 ≤ length (now request) ⌝ }
+    ensures { λ r. ⌜ Is (riderWeight (now (request .entry)) j) 256 r ⌝ }
+{
+    byte(request, 9 + 3 * j + 2)
 }

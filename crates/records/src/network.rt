@@ -25,8 +25,8 @@ pub fn read_network(network: &[u8]) -> NetworkRead
     };
     NetworkRead {
         verdict,
-        n: inner::two(network, 5),
-        m: inner::two(network, 7),
+        n: inner::node_count(network),
+        m: inner::link_count(network),
     }
 }
 
@@ -63,10 +63,10 @@ fn sizes_verdict(network: &[u8]) -> Verdict
     requires { ⌜ 9 ≤ length (now network) ⌝ }
     ensures { λ r. ⌜ r ≡ firstOf (sizeChecks (now (network .entry))) ⌝ }
 {
-    if outside(1, 512, inner::two(network, 5)) {
+    if outside(1, 512, inner::node_count(network)) {
         return refused(4, 0);
     }
-    let m = inner::two(network, 7);
+    let m = inner::link_count(network);
     if outside(0, 2048, m) {
         return refused(4, 0);
     }
@@ -81,8 +81,8 @@ fn links_verdict(network: &[u8]) -> Verdict
     requires { ⌜ linkStart (linkCount (now network)) ≤ length (now network) ⌝ }
     ensures { λ r. ⌜ r ≡ firstOf (each (linkChecks (now (network .entry))) (linkCount (now (network .entry))) 0) ⌝ }
 {
-    let n = inner::two(network, 5);
-    let m = inner::two(network, 7);
+    let n = inner::node_count(network);
+    let m = inner::link_count(network);
     let mut k = 0;
     while k < m {
         if link_beyond(network, n, k) {

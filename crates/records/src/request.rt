@@ -50,11 +50,11 @@ fn request_value(request: &[u8]) -> Request
     requires { ⌜ (riderCount (now request) ≤ 7) × (riderStart (riderCount (now request)) ≤ length (now request)) ⌝ }
     ensures { λ r. ⌜ r ≡ requestValue (now (request .entry)) ⌝ }
 {
-    let count = inner::byte(request, 8);
+    let count = inner::rider_count(request);
     Request {
-        source: inner::two(request, 3),
-        target: inner::two(request, 5),
-        weight: inner::byte(request, 7) as u64,
+        source: inner::request_source(request),
+        target: inner::request_target(request),
+        weight: inner::bus_weight(request) as u64,
         count,
         nodes: rider_nodes(request, count),
         weights: rider_weights(request, count),
@@ -69,7 +69,7 @@ fn rider_nodes(request: &[u8], count: usize) -> [usize; 7]
     let mut nodes = [0usize; 7];
     let mut j = 0;
     while j < count {
-        nodes[j] = inner::two(request, 9 + 3 * j);
+        nodes[j] = inner::rider_node(request, j);
         j += 1;
     }
     nodes
@@ -83,7 +83,7 @@ fn rider_weights(request: &[u8], count: usize) -> [u64; 7]
     let mut weights = [0u64; 7];
     let mut j = 0;
     while j < count {
-        weights[j] = inner::byte(request, 9 + 3 * j + 2) as u64;
+        weights[j] = inner::rider_weight(request, j) as u64;
         j += 1;
     }
     weights
@@ -97,7 +97,7 @@ fn request_verdict(network: &[u8], request: &[u8]) -> Verdict
     let Verdict::Accepted = first else {
         return first;
     };
-    own_verdict(request, inner::two(network, 5))
+    own_verdict(request, inner::node_count(network))
 }
 
 // Refusals 11 to 17, for a network of n nodes.
@@ -124,7 +124,7 @@ fn count_verdict(request: &[u8]) -> Verdict
     requires { ⌜ 9 ≤ length (now request) ⌝ }
     ensures { λ r. ⌜ r ≡ firstOf (countChecks (now (request .entry))) ⌝ }
 {
-    let count = inner::byte(request, 8);
+    let count = inner::rider_count(request);
     if 7 < count {
         return refused(14, 0);
     }
@@ -139,10 +139,12 @@ fn nodes_verdict(request: &[u8], n: usize) -> Verdict
     requires { ⌜ riderStart (riderCount (now request)) ≤ length (now request) ⌝ }
     ensures { λ r. ⌜ r ≡ firstOf (nodeChecks n (now (request .entry))) ⌝ }
 {
-    if n <= inner::two(request, 3) {
+    let source = inner::request_source(request);
+    let target = inner::request_target(request);
+    if n <= source {
         return refused(16, 0);
     }
-    if n <= inner::two(request, 5) {
+    if n <= target {
         return refused(16, 1);
     }
     rider_nodes_verdict(request, n)
@@ -153,10 +155,10 @@ fn rider_nodes_verdict(request: &[u8], n: usize) -> Verdict
     requires { ⌜ riderStart (riderCount (now request)) ≤ length (now request) ⌝ }
     ensures { λ r. ⌜ r ≡ firstOf (each (riderNodeChecks n (now (request .entry))) (riderCount (now (request .entry))) 0) ⌝ }
 {
-    let count = inner::byte(request, 8);
+    let count = inner::rider_count(request);
     let mut j = 0;
     while j < count {
-        if n <= inner::two(request, 9 + 3 * j) {
+        if n <= inner::rider_node(request, j) {
             return refused(16, 2 + j);
         }
         j += 1;
@@ -169,7 +171,7 @@ fn weights_verdict(request: &[u8]) -> Verdict
     requires { ⌜ riderStart (riderCount (now request)) ≤ length (now request) ⌝ }
     ensures { λ r. ⌜ r ≡ firstOf (weightChecks (now (request .entry))) ⌝ }
 {
-    if outside(1, 100, inner::byte(request, 7)) {
+    if outside(1, 100, inner::bus_weight(request)) {
         return refused(17, 0);
     }
     rider_weights_verdict(request)
@@ -180,10 +182,10 @@ fn rider_weights_verdict(request: &[u8]) -> Verdict
     requires { ⌜ riderStart (riderCount (now request)) ≤ length (now request) ⌝ }
     ensures { λ r. ⌜ r ≡ firstOf (each (riderWeightChecks (now (request .entry))) (riderCount (now (request .entry))) 0) ⌝ }
 {
-    let count = inner::byte(request, 8);
+    let count = inner::rider_count(request);
     let mut j = 0;
     while j < count {
-        if outside(1, 100, inner::byte(request, 9 + 3 * j + 2)) {
+        if outside(1, 100, inner::rider_weight(request, j)) {
             return refused(17, 1 + j);
         }
         j += 1;

@@ -3,7 +3,7 @@ pub mod inner;
 mod steps;
 
 use inner::plan;
-use records::inner::two;
+use records::inner::node_count;
 use records::read_request;
 use rules::Planned;
 use rules::Verdict;
@@ -32,7 +32,7 @@ pub fn search(
         return Planned::Refused(r);
     }
     let q = read.request;
-    let n = two(network, 5);
+    let n = node_count(network);
     let rooms = rooms_verdict(n, q.count, distances.len(), table.len(), steps.len());
     if let Verdict::Refused(r) = rooms {
         return Planned::Refused(r);

@@ -1,8 +1,8 @@
 // Reading the plan off the table: the lowest step that makes up the value, time after time.
 use records::inner::drive;
 use records::inner::from;
+use records::inner::link_count;
 use records::inner::to;
-use records::inner::two;
 use rules::NO_FINISH;
 use rules::Request;
 use table::inner::meeting_step;
@@ -104,7 +104,7 @@ fn next_drive(
     ensures { λ r. ⌜ IsNext (now (network .entry)) q (now (table .entry)) riders v r ⌝ }
 {
     let here = value(network, table, riders, v);
-    let m = two(network, 7);
+    let m = link_count(network);
     let mut k = 0;
     while k < m {
         let node = to(network, k);

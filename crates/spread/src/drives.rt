@@ -1,8 +1,8 @@
 // Driving, in rounds over all links until nothing changes.
 use records::inner::drive;
 use records::inner::from;
+use records::inner::link_count;
 use records::inner::to;
-use records::inner::two;
 ghost use Prim.Native.Nat.{_≤_, _<_};
 ghost use Rattle.rules.specs.Network.{nodeCount, linkCount};
 ghost use Rattle.rules.specs.Rooms.{noFinish};
@@ -24,7 +24,7 @@ fn drive_round(network: &[u8], weight: u64, row: &mut [u64]) -> usize
     requires { ⌜ LentRow (now network) weight (now row) ⌝ }
     ensures { λ r. ⌜ Progress (nodeCount (now (network .entry))) (DriveArc (now (network .entry)) weight) (RelaxedBelow (DriveLink (now (network .entry)) weight) (linkCount (now (network .entry)))) (now (row .entry)) (now (row .exit)) r ⌝ }
 {
-    let m = two(network, 7);
+    let m = link_count(network);
     let mut changes = 0;
     let mut k = 0;
     while k < m {

@@ -1,7 +1,7 @@
 // Walking, in rounds over all links until nothing changes.
 use records::inner::from;
+use records::inner::link_count;
 use records::inner::to;
-use records::inner::two;
 use records::inner::walk;
 ghost use Prim.Native.Nat.{_≤_, _<_};
 ghost use Rattle.rules.specs.Network.{nodeCount, linkCount};
@@ -24,7 +24,7 @@ fn walk_round(network: &[u8], distances: &mut [u32]) -> usize
     requires { ⌜ Lent (now network) (now distances) ⌝ }
     ensures { λ r. ⌜ Progress (nodeCount (now (network .entry))) (WalkBack (now (network .entry))) (RelaxedBelow (WalkLink (now (network .entry))) (linkCount (now (network .entry)))) (now (distances .entry)) (now (distances .exit)) r ⌝ }
 {
-    let m = two(network, 7);
+    let m = link_count(network);
     let mut changes = 0;
     let mut k = 0;
     while k < m {

@@ -1,5 +1,5 @@
 // The riders' walking distances, a row for each rider.
-use records::inner::two;
+use records::inner::node_count;
 use rules::Request;
 use walk::inner::walk_from;
 ghost use Rattle.rules.specs.Rooms.{Distances};
@@ -10,7 +10,7 @@ pub fn fill_distances(network: &[u8], q: Request, distances: &mut [u32])
     requires { ⌜ Ready (now network) q (now distances) ⌝ }
     ensures { λ _. ⌜ Distances (now (network .entry)) q (now (distances .entry)) (now (distances .exit)) ⌝ }
 {
-    let n = two(network, 5);
+    let n = node_count(network);
     let nodes = q.nodes;
     let mut j = 0;
     while j < q.count {

@@ -1,5 +1,5 @@
 // Places of the two rooms, and bits of rider sets.
-use records::inner::two;
+use records::inner::node_count;
 ghost use Prim.Native.Nat.{_+_, _*_, _^_, _<_};
 ghost use mathlib.Core.Path.{_≡_};
 ghost use Rattle.rules.specs.Network.{SoundNetwork, nodeCount};
@@ -10,7 +10,7 @@ pub fn place(network: &[u8], row: usize, v: usize) -> usize
     requires { ⌜ SoundNetwork (now network) × (row < 128) × (v < nodeCount (now network)) ⌝ }
     ensures { λ r. ⌜ Is (row * nodeCount (now (network .entry)) + v) 65536 r ⌝ }
 {
-    row * two(network, 5) + v
+    row * node_count(network) + v
 }
 
 // The bit of rider j.

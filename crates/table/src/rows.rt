@@ -1,7 +1,7 @@
 // The work table, a row for each rider set.
 use crate::places::rider_bit;
 use crate::starts::start_row;
-use records::inner::two;
+use records::inner::node_count;
 use rules::Request;
 use spread::inner::spread_drives;
 ghost use Prim.Native.Nat.{_+_, _≤_};
@@ -29,7 +29,7 @@ fn fill_row(network: &[u8], q: Request, distances: &[u32], riders: u32, table: &
     ensures { λ _. ⌜ Filled (now (network .entry)) q (riders + 1) (now (table .entry)) (now (table .exit)) ⌝ }
 {
     start_row(network, q, distances, riders, table);
-    let n = two(network, 5);
+    let n = node_count(network);
     let a = riders as usize * n;
     let b = a + n;
     spread_drives(network, q.weight, &mut table[a..b]);

@@ -1,7 +1,7 @@
 // What a row of the work table starts from: the finishes that don't begin by driving.
 use crate::places::place;
 use crate::places::rider_bit;
-use records::inner::two;
+use records::inner::node_count;
 use rules::NO_DISTANCE;
 use rules::NO_FINISH;
 use rules::Request;
@@ -20,7 +20,7 @@ pub fn start_row(network: &[u8], q: Request, distances: &[u32], riders: u32, tab
     requires { ⌜ RowReady (now network) q (now distances) riders (now table) ⌝ }
     ensures { λ _. ⌜ Started (now (network .entry)) q riders (nodeCount (now (network .entry))) (now (table .entry)) (now (table .exit)) ⌝ }
 {
-    let n = two(network, 5);
+    let n = node_count(network);
     let mut v = 0;
     while v < n {
         let value = start_value(network, q, distances, table, riders, v);

@@ -1,5 +1,5 @@
 // Walking in a room that is known to be large enough: the whole of it, or a row of the search's distances.
-use records::inner::two;
+use records::inner::node_count;
 use rules::NO_DISTANCE;
 use spread::inner::spread_walks;
 ghost use Prim.Native.Nat.{_<_, _≤_};
@@ -14,7 +14,7 @@ pub fn walk_from(network: &[u8], start: usize, distances: &mut [u32])
     requires { ⌜ (start < nodeCount (now network)) × Lent (now network) (now distances) ⌝ }
     ensures { λ _. ⌜ Row (now (network .entry)) start (now (distances .entry)) (now (distances .exit)) ⌝ }
 {
-    let n = two(network, 5);
+    let n = node_count(network);
     clear(distances, n);
     distances[start] = 0;
     spread_walks(network, distances);

@@ -20,13 +20,13 @@ returns c = records-refused _ _ _ _ (request-verdict _ _ (c .before .before .bef
 enum-told : tie.Need-enum-told
 enum-told c = search needs
 
-two-requires : tie.Need-two-requires
-two-requires c κs = omega (arith, records-sound _ _ (request-accepted _ _ (c .before .before .before .read-request .ensures) (c .before .enum-told .given .1)) .0 .long)
+node-count-requires : tie.Need-node-count-requires
+node-count-requires c κs = omega (arith, records-sound _ _ (request-accepted _ _ (c .before .before .before .read-request .ensures) (c .before .enum-told .given .1)) .0 .long)
 
 rooms-verdict-requires : tie.Need-rooms-verdict-requires
 rooms-verdict-requires c κs =
     let (network, request) = records-sound _ _ (request-accepted _ _ (c .before .before .before .before .read-request .ensures) (c .before .before .enum-told .given .1)) in
-    rw (c .two .ensures .value, (request-value _ _ (c .before .before .before .before .read-request .ensures) (c .before .before .enum-told .given .1))) (network .someNode, network .nodes, value-sound _ _ request .riders)
+    rw (c .node-count .ensures .value, (request-value _ _ (c .before .before .before .before .read-request .ensures) (c .before .before .enum-told .given .1))) (network .someNode, network .nodes, value-sound _ _ request .riders)
 
 enum-known-rooms : tie.Need-enum-known-rooms
 enum-known-rooms c = search needs
@@ -34,7 +34,7 @@ enum-known-rooms c = search needs
 returns-2 : tie.Need-returns-2
 returns-2 c =
     rooms-refused _ _ _ (request-accepted _ _ (c .before .before .before .before .before .before .before .before .read-request .ensures) (c .before .before .before .before .before .before .enum-told .given .1))
-    (rw (c .before .before .before .before .two .ensures .value, (request-value _ _ (c .before .before .before .before .before .before .before .before .read-request .ensures) (c .before .before .before .before .before .before .enum-told .given .1))) at (c .before .before .before .rooms-verdict .ensures)) _ (c .before .rooms .given .1)
+    (rw (c .before .before .before .before .node-count .ensures .value, (request-value _ _ (c .before .before .before .before .before .before .before .before .read-request .ensures) (c .before .before .before .before .before .before .enum-told .given .1))) at (c .before .before .before .rooms-verdict .ensures)) _ (c .before .rooms .given .1)
 
 enum-told-2 : tie.Need-enum-told-2
 enum-told-2 c = search needs
@@ -44,7 +44,7 @@ plan-requires c κs =
     let (network, request) = records-sound _ _ (request-accepted _ _ (c .before .before .before .before .before .before .before .before .before .before .read-request .ensures) (c .before .before .before .before .before .before .before .before .enum-told .given .1)) in
     rw (request-value _ _ (c .before .before .before .before .before .before .before .before .before .before .read-request .ensures) (c .before .before .before .before .before .before .before .before .enum-told .given .1))
     (roomy _ _ _ network (value-sound _ _ request)
-    (rw (c .before .before .before .before .before .before .two .ensures .value, (request-value _ _ (c .before .before .before .before .before .before .before .before .before .before .read-request .ensures) (c .before .before .before .before .before .before .before .before .enum-told .given .1))) at (sym (c .before .before .before .before .before .rooms-verdict .ensures) ∙ c .before .before .before .enum-told2 .given .1)))
+    (rw (c .before .before .before .before .before .before .node-count .ensures .value, (request-value _ _ (c .before .before .before .before .before .before .before .before .before .before .read-request .ensures) (c .before .before .before .before .before .before .before .before .enum-told .given .1))) at (sym (c .before .before .before .before .before .rooms-verdict .ensures) ∙ c .before .before .before .enum-told2 .given .1)))
 
 same-length : tie.Need-same-length
 same-length c = search needs
@@ -58,7 +58,7 @@ same-length-3 c = search needs
 returns-3 : tie.Need-returns-3
 returns-3 c =
     searched _ _ _ (request-accepted _ _ (c .before .before .before .before .before .before .before .before .before .before .before .before .before .before .before .before .before .read-request .ensures) (c .before .before .before .before .before .before .before .before .before .before .before .before .before .before .before .enum-told .given .1))
-    (rw (c .before .before .before .before .before .before .before .before .before .before .before .before .before .two .ensures .value, (request-value _ _ (c .before .before .before .before .before .before .before .before .before .before .before .before .before .before .before .before .before .read-request .ensures) (c .before .before .before .before .before .before .before .before .before .before .before .before .before .before .before .enum-told .given .1))) at (c .before .before .before .before .before .before .before .before .before .before .before .before .rooms-verdict .ensures)) (c .before .before .before .before .before .before .before .before .before .before .enum-told2 .given .1)
+    (rw (c .before .before .before .before .before .before .before .before .before .before .before .before .before .node-count .ensures .value, (request-value _ _ (c .before .before .before .before .before .before .before .before .before .before .before .before .before .before .before .before .before .read-request .ensures) (c .before .before .before .before .before .before .before .before .before .before .before .before .before .before .before .enum-told .given .1))) at (c .before .before .before .before .before .before .before .before .before .before .before .before .rooms-verdict .ensures)) (c .before .before .before .before .before .before .before .before .before .before .enum-told2 .given .1)
     (rw (request-value _ _ (c .before .before .before .before .before .before .before .before .before .before .before .before .before .before .before .before .before .read-request .ensures) (c .before .before .before .before .before .before .before .before .before .before .before .before .before .before .before .enum-told .given .1)) at (c .before .before .before .before .before .before .plan .ensures))
 
 pub search-spec : {M : Type 1} → statement M
@@ -69,7 +69,7 @@ search-spec =
     enum-known-verdict
     returns
     enum-told
-    two-requires
+    node-count-requires
     rooms-verdict-requires
     enum-known-rooms
     returns-2

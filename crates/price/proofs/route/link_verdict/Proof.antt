@@ -4,14 +4,14 @@ use borrow.Author.Needs.{needs}
 use Rattle.price.proofs.route.link_verdict.Statement.{statement}
 use Rattle.price.proofs.route.link_verdict.Tie as tie
 
-two-requires : tie.Need-two-requires
-two-requires c κs = search needs
+link-count-requires : tie.Need-link-count-requires
+link-count-requires c κs = search needs
 
 refused-requires : tie.Need-refused-requires
 refused-requires c κs = search needs
 
 returns : tie.Need-returns
-returns c = c .refused .ensures ∙ sym (link-33 _ _ _ _ (c .before .before .two .ensures .value) (c .before .if1 .taken))
+returns c = c .refused .ensures ∙ sym (link-33 _ _ _ _ (c .before .before .link-count .ensures .value) (c .before .if1 .taken))
 
 drive-requires : tie.Need-drive-requires
 drive-requires c κs = search needs
@@ -24,7 +24,7 @@ refused-requires-2 c κs = search needs
 
 returns-2 : tie.Need-returns-2
 returns-2 c =
-    c .refused2 .ensures ∙ sym (link-34 _ _ _ _ (c .before .before .before .before .before .two .ensures .value) (c .before .before .before .before .if1 .left) (c .before .before .before .drive .ensures .value) (c .before .if2 .taken))
+    c .refused2 .ensures ∙ sym (link-34 _ _ _ _ (c .before .before .before .before .before .link-count .ensures .value) (c .before .before .before .before .if1 .left) (c .before .before .before .drive .ensures .value) (c .before .if2 .taken))
 
 refused-requires-3 : tie.Need-refused-requires-3
 refused-requires-3 c κs = search needs
@@ -33,17 +33,17 @@ returns-3 : tie.Need-returns-3
 returns-3 c =
     c .refused3 .ensures
     ∙ sym
-    (link-35 _ _ _ _ (c .before .before .before .before .before .before .two .ensures .value) (c .before .before .before .before .before .if1 .left) (c .before .before .before .before .drive .ensures .value) (c .before .before .if2 .left) (c .before .before .before .from .ensures .value) (c .before .if3 .taken))
+    (link-35 _ _ _ _ (c .before .before .before .before .before .before .link-count .ensures .value) (c .before .before .before .before .before .if1 .left) (c .before .before .before .before .drive .ensures .value) (c .before .before .if2 .left) (c .before .before .before .from .ensures .value) (c .before .if3 .taken))
 
 returns-4 : tie.Need-returns-4
 returns-4 c =
-    sym (link-driven _ _ _ _ (c .before .before .before .before .before .two .ensures .value) (c .before .before .before .before .if1 .left) (c .before .before .before .drive .ensures .value) (c .before .if2 .left) (c .before .before .from .ensures .value) (c .if3 .left))
+    sym (link-driven _ _ _ _ (c .before .before .before .before .before .link-count .ensures .value) (c .before .before .before .before .if1 .left) (c .before .before .before .drive .ensures .value) (c .before .if2 .left) (c .before .before .from .ensures .value) (c .if3 .left))
 
 pub link-verdict-spec : {M : Type 1} → statement M
 link-verdict-spec =
     tie.close
     (tie.spec
-    two-requires
+    link-count-requires
     refused-requires
     returns
     drive-requires

@@ -14,11 +14,11 @@ Inv-loop network n m k₀ k = Passed (linkChecks network) m k
 abbrev μ-loop : tie.MeasureT-loop
 μ-loop network n m k₀ k = m - k
 
-two-requires : tie.Need-two-requires Inv-loop μ-loop
-two-requires c κs = search needs
+node-count-requires : tie.Need-node-count-requires Inv-loop μ-loop
+node-count-requires c κs = search needs
 
-two-requires-2 : tie.Need-two-requires-2 Inv-loop μ-loop
-two-requires-2 c κs = search needs
+link-count-requires : tie.Need-link-count-requires Inv-loop μ-loop
+link-count-requires c κs = search needs
 
 loop-holds : tie.Need-loop-holds Inv-loop μ-loop
 loop-holds c = passed-none _ _
@@ -32,7 +32,7 @@ refused-requires c κs = search needs
 returns : tie.Need-returns Inv-loop μ-loop
 returns c =
     let at = c .before .before .before .before .loop in
-    rw (← c .before .before .before .before .before .two2 .ensures .value)
+    rw (← c .before .before .before .before .before .link-count .ensures .value)
     (c .refused .ensures
     ∙ sym
     (passed-until _ _ (at .k) (at .inv) (refuse 6 (at .k)) (c .before .before .before .loop-test .taken)
@@ -52,7 +52,7 @@ loop-again c =
 
 returns-2 : tie.Need-returns-2 Inv-loop μ-loop
 returns-2 c =
-    rw (← c .before .before .two2 .ensures .value) (sym (passed-all _ _ _ (c .before .loop .inv) (c .loop-test .left)))
+    rw (← c .before .before .link-count .ensures .value) (sym (passed-all _ _ _ (c .before .loop .inv) (c .loop-test .left)))
 
 pub links-verdict-spec : {M : Type 1} → statement M
 links-verdict-spec =
@@ -60,8 +60,8 @@ links-verdict-spec =
     (tie.spec
     Inv-loop
     μ-loop
-    two-requires
-    two-requires-2
+    node-count-requires
+    link-count-requires
     loop-holds
     link-beyond-requires
     refused-requires

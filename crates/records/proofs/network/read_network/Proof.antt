@@ -20,16 +20,16 @@ returns : tie.Need-returns
 unfolding networkOf
 returns c = rw (← c .before .before .network-verdict .ensures, c .enum-told2 .given .1)
 
-two-requires : tie.Need-two-requires
-two-requires c κs = omega (arith, network-sound _ (sym (c .before .before .network-verdict .ensures) ∙ c .enum-told .given .1) .long)
+node-count-requires : tie.Need-node-count-requires
+node-count-requires c κs = omega (arith, network-sound _ (sym (c .before .before .network-verdict .ensures) ∙ c .enum-told .given .1) .long)
 
-two-requires-2 : tie.Need-two-requires-2
-two-requires-2 c κs = network-sound _ (sym (c .before .before .before .network-verdict .ensures) ∙ c .before .enum-told .given .1) .long
+link-count-requires : tie.Need-link-count-requires
+link-count-requires c κs = network-sound _ (sym (c .before .before .before .network-verdict .ensures) ∙ c .before .enum-told .given .1) .long
 
 returns-2 : tie.Need-returns-2
 unfolding networkOf
 returns-2 c =
-    rw (← c .before .before .before .before .network-verdict .ensures, c .before .before .enum-told .given .1, c .before .two .ensures .value, c .two2 .ensures .value)
+    rw (← c .before .before .before .before .network-verdict .ensures, c .before .before .enum-told .given .1, c .before .node-count .ensures .value, c .link-count .ensures .value)
 
 pub read-network-spec : {M : Type 1} → statement M
 read-network-spec =
@@ -39,6 +39,6 @@ read-network-spec =
     enum-told
     enum-told-2
     returns
-    two-requires
-    two-requires-2
+    node-count-requires
+    link-count-requires
     returns-2)

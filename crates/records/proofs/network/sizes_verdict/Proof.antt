@@ -5,8 +5,8 @@ use borrow.Author.Needs.{needs}
 use Rattle.records.proofs.network.sizes_verdict.Statement.{statement}
 use Rattle.records.proofs.network.sizes_verdict.Tie as tie
 
-two-requires : tie.Need-two-requires
-two-requires c κs = search needs
+node-count-requires : tie.Need-node-count-requires
+node-count-requires c κs = search needs
 
 outside-requires : tie.Need-outside-requires
 outside-requires c κs = search needs
@@ -17,10 +17,10 @@ refused-requires c κs = search needs
 returns : tie.Need-returns
 returns c =
     c .refused .ensures
-    ∙ sym (size-4n _ (c .before .before .before .two .ensures .value) (sym (c .before .before .outside .ensures) ∙ c .before .if1 .taken))
+    ∙ sym (size-4n _ (c .before .before .before .node-count .ensures .value) (sym (c .before .before .outside .ensures) ∙ c .before .if1 .taken))
 
-two-requires-2 : tie.Need-two-requires-2
-two-requires-2 c κs = search needs
+link-count-requires : tie.Need-link-count-requires
+link-count-requires c κs = search needs
 
 outside-requires-2 : tie.Need-outside-requires-2
 outside-requires-2 c κs = search needs
@@ -32,8 +32,8 @@ returns-2 : tie.Need-returns-2
 returns-2 c =
     c .refused2 .ensures
     ∙ sym
-    (size-4m _ (c .before .before .before .before .before .before .two .ensures .value) (sym (c .before .before .before .before .before .outside .ensures) ∙ c .before .before .before .before .if1 .left)
-    (c .before .before .before .two2 .ensures .value) (sym (c .before .before .outside2 .ensures) ∙ c .before .if2 .taken))
+    (size-4m _ (c .before .before .before .before .before .before .node-count .ensures .value) (sym (c .before .before .before .before .before .outside .ensures) ∙ c .before .before .before .before .if1 .left)
+    (c .before .before .before .link-count .ensures .value) (sym (c .before .before .outside2 .ensures) ∙ c .before .if2 .taken))
 
 mul-if3 : tie.Need-mul-if3
 mul-if3 c = omega arith
@@ -48,24 +48,24 @@ returns-3 : tie.Need-returns-3
 returns-3 c =
     c .refused3 .ensures
     ∙ sym
-    (size-5 _ (c .before .before .before .before .before .before .before .two .ensures .value) (sym (c .before .before .before .before .before .before .outside .ensures) ∙ c .before .before .before .before .before .if1 .left)
-    (c .before .before .before .before .two2 .ensures .value) (sym (c .before .before .before .outside2 .ensures) ∙ c .before .before .if2 .left) (c .before .if3 .taken))
+    (size-5 _ (c .before .before .before .before .before .before .before .node-count .ensures .value) (sym (c .before .before .before .before .before .before .outside .ensures) ∙ c .before .before .before .before .before .if1 .left)
+    (c .before .before .before .before .link-count .ensures .value) (sym (c .before .before .before .outside2 .ensures) ∙ c .before .before .if2 .left) (c .before .if3 .taken))
 
 returns-4 : tie.Need-returns-4
 returns-4 c =
     sym
-    (sized _ (c .before .before .before .before .before .before .two .ensures .value) (sym (c .before .before .before .before .before .outside .ensures) ∙ c .before .before .before .before .if1 .left)
-    (c .before .before .before .two2 .ensures .value) (sym (c .before .before .outside2 .ensures) ∙ c .before .if2 .left) (c .if3 .left))
+    (sized _ (c .before .before .before .before .before .before .node-count .ensures .value) (sym (c .before .before .before .before .before .outside .ensures) ∙ c .before .before .before .before .if1 .left)
+    (c .before .before .before .link-count .ensures .value) (sym (c .before .before .outside2 .ensures) ∙ c .before .if2 .left) (c .if3 .left))
 
 pub sizes-verdict-spec : {M : Type 1} → statement M
 sizes-verdict-spec =
     tie.close
     (tie.spec
-    two-requires
+    node-count-requires
     outside-requires
     refused-requires
     returns
-    two-requires-2
+    link-count-requires
     outside-requires-2
     refused-requires-2
     returns-2

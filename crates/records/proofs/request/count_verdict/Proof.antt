@@ -4,14 +4,14 @@ use borrow.Author.Needs.{needs}
 use Rattle.records.proofs.request.count_verdict.Statement.{statement}
 use Rattle.records.proofs.request.count_verdict.Tie as tie
 
-byte-requires : tie.Need-byte-requires
-byte-requires c κs = search needs
+rider-count-requires : tie.Need-rider-count-requires
+rider-count-requires c κs = search needs
 
 refused-requires : tie.Need-refused-requires
 refused-requires c κs = search needs
 
 returns : tie.Need-returns
-returns c = c .refused .ensures ∙ sym (count-14 _ (c .before .before .byte .ensures .value) (c .before .if1 .taken))
+returns c = c .refused .ensures ∙ sym (count-14 _ (c .before .before .rider-count .ensures .value) (c .before .if1 .taken))
 
 mul-if2 : tie.Need-mul-if2
 mul-if2 c = search needs
@@ -25,16 +25,16 @@ refused-requires-2 c κs = search needs
 returns-2 : tie.Need-returns-2
 returns-2 c =
     c .refused2 .ensures
-    ∙ sym (count-15 _ (c .before .before .before .byte .ensures .value) (c .before .before .if1 .left) (c .before .if2 .taken))
+    ∙ sym (count-15 _ (c .before .before .before .rider-count .ensures .value) (c .before .before .if1 .left) (c .before .if2 .taken))
 
 returns-3 : tie.Need-returns-3
-returns-3 c = sym (counted _ (c .before .before .byte .ensures .value) (c .before .if1 .left) (c .if2 .left))
+returns-3 c = sym (counted _ (c .before .before .rider-count .ensures .value) (c .before .if1 .left) (c .if2 .left))
 
 pub count-verdict-spec : {M : Type 1} → statement M
 count-verdict-spec =
     tie.close
     (tie.spec
-    byte-requires
+    rider-count-requires
     refused-requires
     returns
     mul-if2

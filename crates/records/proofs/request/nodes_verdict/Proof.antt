@@ -6,8 +6,11 @@ use borrow.Author.Needs.{needs}
 use Rattle.records.proofs.request.nodes_verdict.Statement.{statement}
 use Rattle.records.proofs.request.nodes_verdict.Tie as tie
 
-two-requires : tie.Need-two-requires
-two-requires c κs = search needs
+request-source-requires : tie.Need-request-source-requires
+request-source-requires c κs = search needs
+
+request-target-requires : tie.Need-request-target-requires
+request-target-requires c κs = search needs
 
 refused-requires : tie.Need-refused-requires
 refused-requires c κs = search needs
@@ -15,10 +18,7 @@ refused-requires c κs = search needs
 returns : tie.Need-returns
 unfolding nodeChecks
 returns c =
-    c .refused .ensures ∙ sym (given 16 0 _ (rw (c .before .before .two .ensures .value) at (le-leb _ _ (c .before .if1 .taken))))
-
-two-requires-2 : tie.Need-two-requires-2
-two-requires-2 c κs = search needs
+    c .refused .ensures ∙ sym (given 16 0 _ (rw (c .before .before .before .request-source .ensures .value) at (le-leb _ _ (c .before .if1 .taken))))
 
 refused-requires-2 : tie.Need-refused-requires-2
 refused-requires-2 c κs = search needs
@@ -28,8 +28,8 @@ unfolding nodeChecks
 returns-2 c =
     c .refused2 .ensures
     ∙ sym
-    (passed 16 0 _ (rw (c .before .before .before .before .two .ensures .value) at (lt-leb _ _ (c .before .before .before .if1 .left)))
-    ∙ given 16 1 _ (rw (c .before .before .two2 .ensures .value) at (le-leb _ _ (c .before .if2 .taken))))
+    (passed 16 0 _ (rw (c .before .before .before .before .request-source .ensures .value) at (lt-leb _ _ (c .before .before .if1 .left)))
+    ∙ given 16 1 _ (rw (c .before .before .before .request-target .ensures .value) at (le-leb _ _ (c .before .if2 .taken))))
 
 rider-nodes-verdict-requires : tie.Need-rider-nodes-verdict-requires
 rider-nodes-verdict-requires c κs = search needs
@@ -39,17 +39,17 @@ unfolding nodeChecks
 returns-3 c =
     c .rider-nodes-verdict .ensures
     ∙ sym
-    (passed 16 0 _ (rw (c .before .before .before .before .two .ensures .value) at (lt-leb _ _ (c .before .before .before .if1 .left)))
-    ∙ passed 16 1 _ (rw (c .before .before .two2 .ensures .value) at (lt-leb _ _ (c .before .if2 .left))))
+    (passed 16 0 _ (rw (c .before .before .before .before .request-source .ensures .value) at (lt-leb _ _ (c .before .before .if1 .left)))
+    ∙ passed 16 1 _ (rw (c .before .before .before .request-target .ensures .value) at (lt-leb _ _ (c .before .if2 .left))))
 
 pub nodes-verdict-spec : {M : Type 1} → statement M
 nodes-verdict-spec =
     tie.close
     (tie.spec
-    two-requires
+    request-source-requires
+    request-target-requires
     refused-requires
     returns
-    two-requires-2
     refused-requires-2
     returns-2
     rider-nodes-verdict-requires

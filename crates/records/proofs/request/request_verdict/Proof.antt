@@ -22,8 +22,8 @@ returns : tie.Need-returns
 unfolding requestVerdict networkVerdict
 returns c = stops _ _ (c .enum-told2 .given .0 .0) (c .before .before .network-verdict .ensures) (c .enum-told2 .given .1)
 
-two-requires : tie.Need-two-requires
-two-requires c κs =
+node-count-requires : tie.Need-node-count-requires
+node-count-requires c κs =
     omega (arith, network-sound _ (sym (c .before .before .network-verdict .ensures) ∙ c .enum-told .given .1) .long)
 
 own-verdict-requires : tie.Need-own-verdict-requires
@@ -32,7 +32,7 @@ own-verdict-requires c κs = search needs
 returns-2 : tie.Need-returns-2
 unfolding requestVerdict networkVerdict
 returns-2 c =
-    rw (c .before .two .ensures .value) at (c .own-verdict .ensures)
+    rw (c .before .node-count .ensures .value) at (c .own-verdict .ensures)
     ∙ goes-on (networkChecks _) _ (c .before .before .before .before .network-verdict .ensures) (c .before .before .enum-told .given .1)
 
 pub request-verdict-spec : {M : Type 1} → statement M
@@ -43,6 +43,6 @@ request-verdict-spec =
     enum-told
     enum-told-2
     returns
-    two-requires
+    node-count-requires
     own-verdict-requires
     returns-2)

@@ -19,14 +19,8 @@ loop-holds : tie.Need-loop-holds Inv-loop μ-loop
 unfolding sevenPlaces
 loop-holds c = (omega arith, refl)
 
-mul-two : tie.Need-mul-two Inv-loop μ-loop
-mul-two c = search needs
-
-add-two : tie.Need-add-two Inv-loop μ-loop
-add-two c = search needs
-
-two-requires : tie.Need-two-requires Inv-loop μ-loop
-two-requires c κs = search needs
+rider-node-requires : tie.Need-rider-node-requires Inv-loop μ-loop
+rider-node-requires c κs = search needs
 
 mul-nodes : tie.Need-mul-nodes Inv-loop μ-loop
 mul-nodes c = search needs
@@ -43,7 +37,7 @@ loop-less c = search needs
 loop-again : tie.Need-loop-again Inv-loop μ-loop
 loop-again c = (
   omega arith,
-  rw (c .two .ensures .value, c .before .before .loop .inv .1)
+  rw (c .rider-node .ensures .value, c .before .before .loop .inv .1)
       (place-more (riderNode (c .before .before .before .before .args .request .now)) (c .before .before .loop .j) (omega arith)),
 )
 
@@ -59,9 +53,7 @@ rider-nodes-spec =
     Inv-loop
     μ-loop
     loop-holds
-    mul-two
-    add-two
-    two-requires
+    rider-node-requires
     mul-nodes
     array-write-nodes
     add-j

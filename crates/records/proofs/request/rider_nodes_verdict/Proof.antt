@@ -15,20 +15,14 @@ Inv-loop request n count j₀ j = Passed (riderNodeChecks n request) count j
 abbrev μ-loop : tie.MeasureT-loop
 μ-loop request n count j₀ j = count - j
 
-byte-requires : tie.Need-byte-requires Inv-loop μ-loop
-byte-requires c κs = search needs
+rider-count-requires : tie.Need-rider-count-requires Inv-loop μ-loop
+rider-count-requires c κs = search needs
 
 loop-holds : tie.Need-loop-holds Inv-loop μ-loop
 loop-holds c = passed-none _ _
 
-mul-two : tie.Need-mul-two Inv-loop μ-loop
-mul-two c = search needs
-
-add-two : tie.Need-add-two Inv-loop μ-loop
-add-two c = search needs
-
-two-requires : tie.Need-two-requires Inv-loop μ-loop
-two-requires c κs = search needs
+rider-node-requires : tie.Need-rider-node-requires Inv-loop μ-loop
+rider-node-requires c κs = search needs
 
 add-refused : tie.Need-add-refused Inv-loop μ-loop
 add-refused c = search needs
@@ -39,11 +33,11 @@ refused-requires c κs = search needs
 returns : tie.Need-returns Inv-loop μ-loop
 returns c =
     let at = c .before .before .before .before .loop in
-    rw (← c .before .before .before .before .before .byte .ensures .value)
+    rw (← c .before .before .before .before .before .rider-count .ensures .value)
     (c .refused .ensures
     ∙ sym
     (passed-until _ _ (at .j) (at .inv) (refuse 16 (2 + at .j)) (c .before .before .before .loop-test .taken)
-    (given 16 (2 + at .j) [] (rw (← c .before .before .two .ensures .value) (le-leb _ _ (c .before .if1 .taken))))))
+    (given 16 (2 + at .j) [] (rw (← c .before .before .rider-node .ensures .value) (le-leb _ _ (c .before .if1 .taken))))))
 
 add-j : tie.Need-add-j Inv-loop μ-loop
 add-j c = search needs
@@ -55,11 +49,11 @@ loop-again : tie.Need-loop-again Inv-loop μ-loop
 unfolding firstOf
 loop-again c =
     passed-more _ _ _ (c .before .before .before .loop .inv) (c .before .before .loop-test .taken)
-    (passed 16 _ [] (rw (c .before .two .ensures .value) at (lt-leb _ _ (c .if1 .left))))
+    (passed 16 _ [] (rw (c .before .rider-node .ensures .value) at (lt-leb _ _ (c .if1 .left))))
 
 returns-2 : tie.Need-returns-2 Inv-loop μ-loop
 returns-2 c =
-    rw (← c .before .before .byte .ensures .value) (sym (passed-all _ _ _ (c .before .loop .inv) (c .loop-test .left)))
+    rw (← c .before .before .rider-count .ensures .value) (sym (passed-all _ _ _ (c .before .loop .inv) (c .loop-test .left)))
 
 pub rider-nodes-verdict-spec : {M : Type 1} → statement M
 rider-nodes-verdict-spec =
@@ -67,11 +61,9 @@ rider-nodes-verdict-spec =
     (tie.spec
     Inv-loop
     μ-loop
-    byte-requires
+    rider-count-requires
     loop-holds
-    mul-two
-    add-two
-    two-requires
+    rider-node-requires
     add-refused
     refused-requires
     returns

@@ -19,17 +19,8 @@ loop-holds : tie.Need-loop-holds Inv-loop μ-loop
 unfolding sevenPlaces
 loop-holds c = (omega arith, refl)
 
-mul-byte : tie.Need-mul-byte Inv-loop μ-loop
-mul-byte c = search needs
-
-add-byte : tie.Need-add-byte Inv-loop μ-loop
-add-byte c = search needs
-
-add-byte-2 : tie.Need-add-byte-2 Inv-loop μ-loop
-add-byte-2 c = search needs
-
-byte-requires : tie.Need-byte-requires Inv-loop μ-loop
-byte-requires c κs = search needs
+rider-weight-requires : tie.Need-rider-weight-requires Inv-loop μ-loop
+rider-weight-requires c κs = search needs
 
 mul-weights : tie.Need-mul-weights Inv-loop μ-loop
 mul-weights c = search needs
@@ -46,7 +37,7 @@ loop-less c = search needs
 loop-again : tie.Need-loop-again Inv-loop μ-loop
 loop-again c = (
   omega arith,
-  rw (c .byte .ensures .value, c .before .before .loop .inv .1)
+  rw (c .rider-weight .ensures .value, c .before .before .loop .inv .1)
       (place-more (riderWeight (c .before .before .before .before .args .request .now)) (c .before .before .loop .j) (omega arith)),
 )
 
@@ -62,10 +53,7 @@ rider-weights-spec =
     Inv-loop
     μ-loop
     loop-holds
-    mul-byte
-    add-byte
-    add-byte-2
-    byte-requires
+    rider-weight-requires
     mul-weights
     array-write-weights
     add-j

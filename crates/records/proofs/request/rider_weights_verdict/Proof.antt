@@ -14,23 +14,14 @@ Inv-loop request count j₀ j = Passed (riderWeightChecks request) count j
 abbrev μ-loop : tie.MeasureT-loop
 μ-loop request count j₀ j = count - j
 
-byte-requires : tie.Need-byte-requires Inv-loop μ-loop
-byte-requires c κs = search needs
+rider-count-requires : tie.Need-rider-count-requires Inv-loop μ-loop
+rider-count-requires c κs = search needs
 
 loop-holds : tie.Need-loop-holds Inv-loop μ-loop
 loop-holds c = passed-none _ _
 
-mul-byte : tie.Need-mul-byte Inv-loop μ-loop
-mul-byte c = search needs
-
-add-byte : tie.Need-add-byte Inv-loop μ-loop
-add-byte c = search needs
-
-add-byte-2 : tie.Need-add-byte-2 Inv-loop μ-loop
-add-byte-2 c = search needs
-
-byte-requires-2 : tie.Need-byte-requires-2 Inv-loop μ-loop
-byte-requires-2 c κs = search needs
+rider-weight-requires : tie.Need-rider-weight-requires Inv-loop μ-loop
+rider-weight-requires c κs = search needs
 
 outside-requires : tie.Need-outside-requires Inv-loop μ-loop
 outside-requires c κs = search needs
@@ -44,12 +35,12 @@ refused-requires c κs = search needs
 returns : tie.Need-returns Inv-loop μ-loop
 returns c =
     let at = c .before .before .before .before .before .loop in
-    rw (← c .before .before .before .before .before .before .byte .ensures .value)
+    rw (← c .before .before .before .before .before .before .rider-count .ensures .value)
     (c .refused .ensures
     ∙ sym
     (passed-until _ _ (at .j) (at .inv) (refuse 17 (1 + at .j)) (c .before .before .before .before .loop-test .taken)
     (given 17 (1 + at .j) []
-    (rw (← c .before .before .before .byte2 .ensures .value) (sym (c .before .before .outside .ensures) ∙ c .before .if1 .taken)))))
+    (rw (← c .before .before .before .rider-weight .ensures .value) (sym (c .before .before .outside .ensures) ∙ c .before .if1 .taken)))))
 
 add-j : tie.Need-add-j Inv-loop μ-loop
 add-j c = search needs
@@ -61,11 +52,11 @@ loop-again : tie.Need-loop-again Inv-loop μ-loop
 unfolding firstOf
 loop-again c =
     passed-more _ _ _ (c .before .before .before .before .loop .inv) (c .before .before .before .loop-test .taken)
-    (passed 17 _ [] (rw (c .before .before .byte2 .ensures .value) at (sym (c .before .outside .ensures) ∙ c .if1 .left)))
+    (passed 17 _ [] (rw (c .before .before .rider-weight .ensures .value) at (sym (c .before .outside .ensures) ∙ c .if1 .left)))
 
 returns-2 : tie.Need-returns-2 Inv-loop μ-loop
 returns-2 c =
-    rw (← c .before .before .byte .ensures .value) (sym (passed-all _ _ _ (c .before .loop .inv) (c .loop-test .left)))
+    rw (← c .before .before .rider-count .ensures .value) (sym (passed-all _ _ _ (c .before .loop .inv) (c .loop-test .left)))
 
 pub rider-weights-verdict-spec : {M : Type 1} → statement M
 rider-weights-verdict-spec =
@@ -73,12 +64,9 @@ rider-weights-verdict-spec =
     (tie.spec
     Inv-loop
     μ-loop
-    byte-requires
+    rider-count-requires
     loop-holds
-    mul-byte
-    add-byte
-    add-byte-2
-    byte-requires-2
+    rider-weight-requires
     outside-requires
     add-refused
     refused-requires

@@ -5,8 +5,8 @@ use borrow.Author.Needs.{needs}
 use Rattle.records.proofs.request.weights_verdict.Statement.{statement}
 use Rattle.records.proofs.request.weights_verdict.Tie as tie
 
-byte-requires : tie.Need-byte-requires
-byte-requires c κs = search needs
+bus-weight-requires : tie.Need-bus-weight-requires
+bus-weight-requires c κs = search needs
 
 outside-requires : tie.Need-outside-requires
 outside-requires c κs = search needs
@@ -18,7 +18,7 @@ returns : tie.Need-returns
 unfolding weightChecks
 returns c =
     c .refused .ensures
-    ∙ sym (given 17 0 _ (rw (c .before .before .before .byte .ensures .value) at (sym (c .before .before .outside .ensures) ∙ c .before .if1 .taken)))
+    ∙ sym (given 17 0 _ (rw (c .before .before .before .bus-weight .ensures .value) at (sym (c .before .before .outside .ensures) ∙ c .before .if1 .taken)))
 
 rider-weights-verdict-requires : tie.Need-rider-weights-verdict-requires
 rider-weights-verdict-requires c κs = search needs
@@ -27,13 +27,13 @@ returns-2 : tie.Need-returns-2
 unfolding weightChecks
 returns-2 c =
     c .rider-weights-verdict .ensures
-    ∙ sym (passed 17 0 _ (rw (c .before .before .before .byte .ensures .value) at (sym (c .before .before .outside .ensures) ∙ c .before .if1 .left)))
+    ∙ sym (passed 17 0 _ (rw (c .before .before .before .bus-weight .ensures .value) at (sym (c .before .before .outside .ensures) ∙ c .before .if1 .left)))
 
 pub weights-verdict-spec : {M : Type 1} → statement M
 weights-verdict-spec =
     tie.close
     (tie.spec
-    byte-requires
+    bus-weight-requires
     outside-requires
     refused-requires
     returns

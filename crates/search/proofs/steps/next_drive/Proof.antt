@@ -16,8 +16,8 @@ abbrev μ-loop : tie.MeasureT-loop
 value-requires : tie.Need-value-requires Inv-loop μ-loop
 value-requires c κs = value-ready (c .before .before .before .pre .0 .known) (c .before .before .before .pre .0 .set) (c .before .before .before .pre .0 .node)
 
-two-requires : tie.Need-two-requires Inv-loop μ-loop
-two-requires c κs = c .before .before .before .before .pre .0 .known .walked .ready .sound .long
+link-count-requires : tie.Need-link-count-requires Inv-loop μ-loop
+link-count-requires c κs = c .before .before .before .before .pre .0 .known .walked .ready .sound .long
 
 loop-holds : tie.Need-loop-holds Inv-loop μ-loop
 loop-holds c = passing-none (c .before .before .before .before .before .pre .0)
@@ -73,7 +73,7 @@ next-drive-spec =
     Inv-loop
     μ-loop
     value-requires
-    two-requires
+    link-count-requires
     loop-holds
     to-requires
     driving-step-requires

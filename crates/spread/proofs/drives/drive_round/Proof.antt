@@ -18,8 +18,8 @@ Inv-loop network weight row₀ m changes₀ k₀ row changes k =
 abbrev μ-loop : tie.MeasureT-loop
 μ-loop network weight row₀ m changes₀ k₀ row changes k = m - k
 
-two-requires : tie.Need-two-requires Inv-loop μ-loop
-two-requires c κs = c .before .before .pre .lent .sound .long
+link-count-requires : tie.Need-link-count-requires Inv-loop μ-loop
+link-count-requires c κs = c .before .before .pre .lent .sound .long
 
 loop-holds : tie.Need-loop-holds Inv-loop μ-loop
 loop-holds c = (omega arith, omega arith, progress-none (λ i h. absurd (omega arith)))
@@ -59,7 +59,7 @@ drive-round-spec =
     (tie.spec
     Inv-loop
     μ-loop
-    two-requires
+    link-count-requires
     loop-holds
     relax-drive-requires
     add-changes

@@ -19,8 +19,8 @@ Inv-loop network distances₀ m changes₀ k₀ distances changes k =
 abbrev μ-loop : tie.MeasureT-loop
 μ-loop network distances₀ m changes₀ k₀ distances changes k = m - k
 
-two-requires : tie.Need-two-requires Inv-loop μ-loop
-two-requires c κs = c .before .before .pre .sound .long
+link-count-requires : tie.Need-link-count-requires Inv-loop μ-loop
+link-count-requires c κs = c .before .before .pre .sound .long
 
 loop-holds : tie.Need-loop-holds Inv-loop μ-loop
 loop-holds c = (omega arith, omega arith, progress-none (λ i h. absurd (omega arith)))
@@ -58,7 +58,7 @@ walk-round-spec =
     (tie.spec
     Inv-loop
     μ-loop
-    two-requires
+    link-count-requires
     loop-holds
     relax-walk-requires
     add-changes

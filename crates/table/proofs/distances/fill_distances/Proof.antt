@@ -13,14 +13,14 @@ Inv-loop network q distances₀ n nodes j₀ distances j = WalkedRows network q 
 abbrev μ-loop : tie.MeasureT-loop
 μ-loop network q distances₀ n nodes j₀ distances j = q .count - j
 
-two-requires : tie.Need-two-requires Inv-loop μ-loop
-two-requires c κs = omega arith
+node-count-requires : tie.Need-node-count-requires Inv-loop μ-loop
+node-count-requires c κs = omega arith
 
 loop-holds : tie.Need-loop-holds Inv-loop μ-loop
 loop-holds c = walked-none
 
-fits : (c : tie.Then1 Inv-loop μ-loop) → Lies (c .before .before .loop .j * c .before .before .before .before .two .result) (c .before .before .before .before .two .result) (length (c .before .before .loop .distances))
-fits c = rw (c .before .before .before .before .two .ensures .value) (row-fits (c .before .before .before .before .before .before .before .pre) (c .before .before .loop .inv) (c .if1 .taken))
+fits : (c : tie.Then1 Inv-loop μ-loop) → Lies (c .before .before .loop .j * c .before .before .before .before .node-count .result) (c .before .before .before .before .node-count .result) (length (c .before .before .loop .distances))
+fits c = rw (c .before .before .before .before .node-count .ensures .value) (row-fits (c .before .before .before .before .before .before .before .pre) (c .before .before .loop .inv) (c .if1 .taken))
 
 mul-a : tie.Need-mul-a Inv-loop μ-loop
 mul-a c = omega (arith, fits c)
@@ -47,7 +47,7 @@ part-walk-from-end : tie.Need-part-walk-from-end Inv-loop μ-loop
 part-walk-from-end c = fits c .within
 
 walk-from-requires : tie.Need-walk-from-requires Inv-loop μ-loop
-walk-from-requires c κs = (c .before .before .before .before .before .before .before .before .pre .request .nodes _ (c .before .if1 .taken), rw (c .before .before .before .before .before .two .ensures .value) (row-lent (c .before .before .before .before .before .before .before .before .pre) (c .before .before .before .loop .inv) (c .before .if1 .taken)))
+walk-from-requires c κs = (c .before .before .before .before .before .before .before .before .pre .request .nodes _ (c .before .if1 .taken), rw (c .before .before .before .before .before .node-count .ensures .value) (row-lent (c .before .before .before .before .before .before .before .before .pre) (c .before .before .before .loop .inv) (c .before .if1 .taken)))
 
 add-j : tie.Need-add-j Inv-loop μ-loop
 add-j c = omega (arith, c .before .before .before .before .before .before .before .before .before .before .before .pre .request .riders)
@@ -56,7 +56,7 @@ loop-less : tie.Need-loop-less Inv-loop μ-loop
 loop-less c = omega arith
 
 loop-again : tie.Need-loop-again Inv-loop μ-loop
-loop-again c = rw (c .before .before .before .before .before .before .before .before .two .ensures .value) (walked-more (c .before .before .before .before .before .before .before .before .before .before .before .pre) (c .before .before .before .before .before .before .loop .inv) (c .before .before .before .before .if1 .taken) (rw (c .before .before .before .before .before .before .before .before .two .ensures .value) at (c .before .before .walk-from .ensures)))
+loop-again c = rw (c .before .before .before .before .before .before .before .before .node-count .ensures .value) (walked-more (c .before .before .before .before .before .before .before .before .before .before .before .pre) (c .before .before .before .before .before .before .loop .inv) (c .before .before .before .before .if1 .taken) (rw (c .before .before .before .before .before .before .before .before .node-count .ensures .value) at (c .before .before .walk-from .ensures)))
 
 same-length : tie.Need-same-length Inv-loop μ-loop
 same-length c = c .before .before .loop .inv .kept .size
@@ -70,7 +70,7 @@ fill-distances-spec =
     (tie.spec
     Inv-loop
     μ-loop
-    two-requires
+    node-count-requires
     loop-holds
     mul-a
     add-b

@@ -5,17 +5,17 @@ use Rattle.table.proofs.RowLaws.{row-start}
 use Rattle.table.proofs.places.place.Statement.{statement}
 use Rattle.table.proofs.places.place.Tie as tie
 
-two-requires : tie.Need-two-requires
-two-requires c κs = search needs
+node-count-requires : tie.Need-node-count-requires
+node-count-requires c κs = search needs
 
 mul-result : tie.Need-mul-result
-mul-result c = omega (arith, row-start (c .two .result) (c .before .before .args .row) (omega arith) (omega arith))
+mul-result c = omega (arith, row-start (c .node-count .result) (c .before .before .args .row) (omega arith) (omega arith))
 
 add-result : tie.Need-add-result
-add-result c = omega (arith, row-start (c .two .result) (c .before .before .args .row) (omega arith) (omega arith))
+add-result c = omega (arith, row-start (c .node-count .result) (c .before .before .args .row) (omega arith) (omega arith))
 
 returns : tie.Need-returns
-returns c = record { value = rw (c .two .ensures .value) refl; below = omega (arith, row-start (c .two .result) (c .before .before .args .row) (omega arith) (omega arith)) }
+returns c = record { value = rw (c .node-count .ensures .value) refl; below = omega (arith, row-start (c .node-count .result) (c .before .before .args .row) (omega arith) (omega arith)) }
 
 pub place-spec : {M : Type 1} → statement M
-place-spec = tie.close (tie.spec two-requires mul-result add-result returns)
+place-spec = tie.close (tie.spec node-count-requires mul-result add-result returns)

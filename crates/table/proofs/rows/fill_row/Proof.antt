@@ -10,11 +10,11 @@ use Rattle.table.proofs.rows.fill_row.Tie as tie
 start-row-requires : tie.Need-start-row-requires
 start-row-requires c κs = search needs
 
-two-requires : tie.Need-two-requires
-two-requires c κs = search needs
+node-count-requires : tie.Need-node-count-requires
+node-count-requires c κs = search needs
 
-there : (c : tie.After-two) → Lies (c .before .before .before .before .before .before .before .before .args .riders * c .two .result) (c .two .result) (length (c .before .before .before .start-row .last .1 .1 .1 .1 .0))
-there c = rw (c .two .ensures .value) (row-there (c .before .before .before .before .before .before .before .before .pre) (c .before .before .before .start-row .ensures))
+there : (c : tie.After-node-count) → Lies (c .before .before .before .before .before .before .before .before .args .riders * c .node-count .result) (c .node-count .result) (length (c .before .before .before .start-row .last .1 .1 .1 .1 .0))
+there c = rw (c .node-count .ensures .value) (row-there (c .before .before .before .before .before .before .before .before .pre) (c .before .before .before .start-row .ensures))
 
 mul-a : tie.Need-mul-a
 mul-a c = omega (arith, there c)
@@ -35,20 +35,20 @@ part-spread-drives-end : tie.Need-part-spread-drives-end
 part-spread-drives-end c = there c .within
 
 spread-drives-requires : tie.Need-spread-drives-requires
-spread-drives-requires c κs = rw (c .before .two .ensures .value) (row-lent (c .before .before .before .before .before .before .before .before .before .pre) (c .before .before .before .before .start-row .ensures))
+spread-drives-requires c κs = rw (c .before .node-count .ensures .value) (row-lent (c .before .before .before .before .before .before .before .before .before .pre) (c .before .before .before .before .start-row .ensures))
 
 same-length : tie.Need-same-length
 same-length c = search needs
 
 returns : tie.Need-returns
-returns c = rw (c .before .before .before .before .two .ensures .value) (row-filled (c .before .before .before .before .before .before .before .before .before .before .before .before .pre) (c .before .before .before .before .before .before .before .start-row .ensures) (rw (c .before .before .before .before .two .ensures .value) at (c .before .before .spread-drives .ensures)))
+returns c = rw (c .before .before .before .before .node-count .ensures .value) (row-filled (c .before .before .before .before .before .before .before .before .before .before .before .before .pre) (c .before .before .before .before .before .before .before .start-row .ensures) (rw (c .before .before .before .before .node-count .ensures .value) at (c .before .before .spread-drives .ensures)))
 
 pub fill-row-spec : {M : Type 1} → statement M
 fill-row-spec =
     tie.close
     (tie.spec
     start-row-requires
-    two-requires
+    node-count-requires
     mul-a
     add-b
     mul-spread-drives

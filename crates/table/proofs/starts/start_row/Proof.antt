@@ -13,23 +13,23 @@ Inv-loop network q distances riders table₀ n v₀ table v = Started network q 
 abbrev μ-loop : tie.MeasureT-loop
 μ-loop network q distances riders table₀ n v₀ table v = n - v
 
-two-requires : tie.Need-two-requires Inv-loop μ-loop
-two-requires c κs = omega (arith, c .before .before .before .pre .walked .ready .sound .long)
+node-count-requires : tie.Need-node-count-requires Inv-loop μ-loop
+node-count-requires c κs = omega (arith, c .before .before .before .pre .walked .ready .sound .long)
 
 loop-holds : tie.Need-loop-holds Inv-loop μ-loop
 loop-holds c = started-none (c .before .before .before .before .pre)
 
 start-value-requires : tie.Need-start-value-requires Inv-loop μ-loop
-start-value-requires c κs = (omega (arith, c .before .before .before .two .ensures .value), room-after (c .before .before .before .before .before .before .before .pre) (c .before .before .loop .inv))
+start-value-requires c κs = (omega (arith, c .before .before .before .node-count .ensures .value), room-after (c .before .before .before .before .before .before .before .pre) (c .before .before .loop .inv))
 
 place-requires : tie.Need-place-requires Inv-loop μ-loop
-place-requires c κs = (c .before .before .before .before .before .before .before .before .pre .walked .ready .sound, start-there (c .before .before .before .before .before .before .before .before .pre) (c .before .before .before .loop .inv) (omega (arith, c .before .before .before .before .two .ensures .value)) .0, omega (arith, c .before .before .before .before .two .ensures .value))
+place-requires c κs = (c .before .before .before .before .before .before .before .before .pre .walked .ready .sound, start-there (c .before .before .before .before .before .before .before .before .pre) (c .before .before .before .loop .inv) (omega (arith, c .before .before .before .before .node-count .ensures .value)) .0, omega (arith, c .before .before .before .before .node-count .ensures .value))
 
 mul-table : tie.Need-mul-table Inv-loop μ-loop
 mul-table c = omega arith
 
 slice-write-table : tie.Need-slice-write-table Inv-loop μ-loop
-slice-write-table c = omega (arith, c .place .ensures .value, start-there (c .before .before .before .before .before .before .before .before .before .pre) (c .before .before .before .before .loop .inv) (omega (arith, c .before .before .before .before .before .two .ensures .value)))
+slice-write-table c = omega (arith, c .place .ensures .value, start-there (c .before .before .before .before .before .before .before .before .before .pre) (c .before .before .before .before .loop .inv) (omega (arith, c .before .before .before .before .before .node-count .ensures .value)))
 
 add-v : tie.Need-add-v Inv-loop μ-loop
 add-v c = omega arith
@@ -38,14 +38,14 @@ loop-less : tie.Need-loop-less Inv-loop μ-loop
 loop-less c = omega arith
 
 loop-again : tie.Need-loop-again Inv-loop μ-loop
-loop-again c = started-more (c .before .before .before .before .before .before .before .before .before .pre) (c .before .before .before .before .loop .inv) (c .place .ensures .value) (omega (arith, c .before .before .before .before .before .two .ensures .value)) (c .before .start-value .ensures)
+loop-again c = started-more (c .before .before .before .before .before .before .before .before .before .pre) (c .before .before .before .before .loop .inv) (c .place .ensures .value) (omega (arith, c .before .before .before .before .before .node-count .ensures .value)) (c .before .start-value .ensures)
 
 same-length : tie.Need-same-length Inv-loop μ-loop
 same-length c = c .before .loop .inv .filled .kept .size
 
 returns : tie.Need-returns Inv-loop μ-loop
 returns c =
-    let all : c .before .loop .v ≡ nodeCount (c .before .before .before .before .before .before .args .network .now) = omega (arith, c .before .before .two .ensures .value) in
+    let all : c .before .loop .v ≡ nodeCount (c .before .before .before .before .before .before .args .network .now) = omega (arith, c .before .before .node-count .ensures .value) in
     rw all at (c .before .loop .inv)
 
 pub start-row-spec : {M : Type 1} → statement M
@@ -54,7 +54,7 @@ start-row-spec =
     (tie.spec
     Inv-loop
     μ-loop
-    two-requires
+    node-count-requires
     loop-holds
     start-value-requires
     place-requires

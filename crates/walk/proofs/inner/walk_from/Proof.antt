@@ -7,8 +7,8 @@ use borrow.Author.Needs.{needs}
 use Rattle.walk.proofs.inner.walk_from.Statement.{statement}
 use Rattle.walk.proofs.inner.walk_from.Tie as tie
 
-two-requires : tie.Need-two-requires
-two-requires c κs = search needs
+node-count-requires : tie.Need-node-count-requires
+node-count-requires c κs = search needs
 
 clear-requires : tie.Need-clear-requires
 clear-requires c κs = search needs
@@ -35,13 +35,13 @@ returns : tie.Need-returns
 returns c =
     let lent = c .before .before .before .before .before .before .before .before .before .before .before .pre in
     walked (lent .1 .sound) (lent .0) (lent .1 .places)
-    (rw (c .before .before .before .before .before .before .clear .ensures, c .before .before .before .before .before .before .before .before .two .ensures .value) at (c .before .before .spread-walks .ensures))
+    (rw (c .before .before .before .before .before .before .clear .ensures, c .before .before .before .before .before .before .before .before .node-count .ensures .value) at (c .before .before .spread-walks .ensures))
 
 pub walk-from-spec : {M : Type 1} → statement M
 walk-from-spec =
     tie.close
     (tie.spec
-    two-requires
+    node-count-requires
     clear-requires
     mul-distances
     slice-write-distances
