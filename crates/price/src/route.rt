@@ -3,6 +3,8 @@ use records::inner::drive;
 use records::inner::from;
 use records::inner::link_count;
 use records::inner::to;
+use rules::CLOSED;
+use rules::MOST_LINKS;
 use rules::Request;
 use rules::Verdict;
 use rules::refused;
@@ -27,7 +29,7 @@ pub fn route_verdict(network: &[u8], q: Request, route: &[u16]) -> Verdict
     requires { ⌜ SoundNetwork (now network) ⌝ }
     ensures { λ r. ⌜ r ≡ firstOf (routeChecks (now (network .entry)) q (now (route .entry))) ⌝ }
 {
-    if 4095 < route.len() {
+    if MOST_LINKS < route.len() {
         return refused(32, 0);
     }
     let mut node = q.source;
@@ -57,7 +59,7 @@ fn link_verdict(network: &[u8], node: usize, k: usize, i: usize) -> Verdict
     }
     let cost = drive(network, k);
     let start = from(network, k);
-    if 65535 <= cost {
+    if CLOSED <= cost {
         return refused(34, i);
     }
     if start != node {

@@ -9,6 +9,12 @@ pub const NO_DISTANCE: u32 = 4294967295;
 // What a place of the search's table holds where there is no finish.
 pub const NO_FINISH: u64 = 18446744073709551615;
 
+// What a link's cost is for a use that it is closed to.
+pub const CLOSED: u64 = 65535;
+
+// How many links a route that is priced may have.
+pub const MOST_LINKS: usize = 4095;
+
 // A refusal: document 01's number, and the place it names (0 where it names none).
 pub struct Refusal {
     pub number: u16,

@@ -3,6 +3,7 @@ use records::inner::drive;
 use records::inner::from;
 use records::inner::link_count;
 use records::inner::to;
+use rules::CLOSED;
 use rules::NO_FINISH;
 use rules::Request;
 use table::inner::meeting_step;
@@ -85,7 +86,7 @@ fn driving_step(network: &[u8], weight: u64, v: usize, k: usize) -> u64
     if start != v {
         return NO_FINISH;
     }
-    if 65535 <= cost {
+    if CLOSED <= cost {
         return NO_FINISH;
     }
     4096 * (weight * cost) + 1

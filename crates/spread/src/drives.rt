@@ -3,6 +3,7 @@ use records::inner::drive;
 use records::inner::from;
 use records::inner::link_count;
 use records::inner::to;
+use rules::CLOSED;
 ghost use Prim.Native.Nat.{_≤_, _<_};
 ghost use Rattle.rules.specs.Network.{nodeCount, linkCount};
 ghost use Rattle.rules.specs.Rooms.{noFinish};
@@ -40,7 +41,7 @@ fn relax_drive(network: &[u8], weight: u64, k: usize, row: &mut [u64]) -> usize
     ensures { λ r. ⌜ (r ≤ 1) × Progress (nodeCount (now (network .entry))) (DriveArc (now (network .entry)) weight) (Relaxed (DriveLink (now (network .entry)) weight) k) (now (row .entry)) (now (row .exit)) r ⌝ }
 {
     let cost = drive(network, k);
-    if 65535 <= cost {
+    if CLOSED <= cost {
         return 0;
     }
     let step = 4096 * (weight * cost) + 1;

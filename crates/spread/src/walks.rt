@@ -3,6 +3,7 @@ use records::inner::from;
 use records::inner::link_count;
 use records::inner::to;
 use records::inner::walk;
+use rules::CLOSED;
 ghost use Prim.Native.Nat.{_≤_, _<_};
 ghost use Rattle.rules.specs.Network.{nodeCount, linkCount};
 ghost use Rattle.rules.specs.Walks.{noDistance};
@@ -40,7 +41,7 @@ fn relax_walk(network: &[u8], k: usize, distances: &mut [u32]) -> usize
     ensures { λ r. ⌜ (r ≤ 1) × Progress (nodeCount (now (network .entry))) (WalkBack (now (network .entry))) (Relaxed (WalkLink (now (network .entry))) k) (now (distances .entry)) (now (distances .exit)) r ⌝ }
 {
     let cost = walk(network, k);
-    if 65535 <= cost {
+    if CLOSED <= cost as u64 {
         return 0;
     }
     let start = from(network, k);

@@ -7,6 +7,9 @@ use Rattle.spread.proofs.walks.relax_walk.Tie as tie
 walk-requires : tie.Need-walk-requires
 walk-requires c κs = search needs
 
+cast-if1 : tie.Need-cast-if1
+cast-if1 c = search needs
+
 returns : tie.Need-returns
 returns c = (omega arith, closed-link (c .before .walk .ensures .value) (c .if1 .taken))
 
@@ -67,6 +70,7 @@ relax-walk-spec =
     tie.close
     (tie.spec
     walk-requires
+    cast-if1
     returns
     from-requires
     to-requires
