@@ -5,7 +5,7 @@ use mathlib.Core.Logic.{_≢_, _↔_}
 use native.Mathlib.Nat.{pow-succ', div-div-eq-div-mul}
 use native.Mathlib.Decide.{decLt}
 use native.Mathlib.Omega.{arith}
-use lib.Count.{ones, ones-step, trailingZeros, under}
+use lib.Count.{ones, onesIn, ones-step, trailingZeros, under}
 use lib.Pow.{pow-mono, pow-pos}
 use Rattle.rules.specs.Plans.{Has, without}
 use Rattle.finish.specs.Sets.{Lowest}
@@ -44,6 +44,18 @@ pub ones-without : (R j : ℕ) → Has R j → ones (without R j) + 1 ≡ ones R
 ones-without R zero h = omega (arith, ones-step R, rw (half-without-first R h) at (ones-step (without R 0)))
 ones-without R (suc j) h =
     omega (arith, has-le R (suc j) h, pow-succ' 2 j, ones-step R, rw (half-without R j h) at (ones-step (without R (suc j))), ones-without (R / 2) j (half-has R j h))
+
+-- "The number of riders still to be met is the count of ones in R": none exactly when R is empty.
+nobody : ones 0 ≡ 0
+unfolding ones onesIn
+nobody = refl
+
+pub somebody : (R : ℕ) → ones R ≢ 0 → 0 < R
+somebody zero h = absurd (h nobody)
+somebody (suc R) h = omega arith
+
+pub nobody-has : (R j : ℕ) → ones R ≡ 0 → Has R j → ⊥
+nobody-has R j none h = omega (arith, ones-without R j h)
 
 own-digit : (R j : ℕ) → Has R j → Has (without R j) j → ⊥
 own-digit R zero h g = omega arith

@@ -1,21 +1,20 @@
 -- The lowest tight step, tried one after the other.
-use Prim.Native.Nat.{ℕ, zero, suc, _+_, _-_, _*_, _^_, _≤_, _<_}
+use Prim.Native.Nat.{ℕ, _+_, _-_, _*_, _^_, _≤_, _<_}
 use native.Mathlib.Omega.{arith}
 use native.Mathlib.Decide.{ℕ-discrete, decLt}
-use mathlib.Core.Path.{_≡_, refl, sym, _∙_}
-use mathlib.Core.Logic.{_≢_}
+use mathlib.Core.Path.{_≡_, sym, _∙_}
 use mathlib.Core.Bool.{Bool, true, false}
 use mathlib.Core.List.{List}
 use lib.ListN.{length, getD, set}
 use lib.Dec.{eqb}
 use borrow.Author.Tests.{eq-eqb, ne-eqb, eqb-true, eqb-false}
-use lib.Count.{ones, onesIn, trailingZeros}
+use lib.Count.{ones, trailingZeros}
 use Rattle.rules.specs.Network.{SoundNetwork, nodeCount, linkCount, to}
 use Rattle.rules.specs.Request.{riderWeightOf}
 use Rattle.rules.specs.Plans.{Has, without}
 use Rattle.rules.specs.declared.Request.{Request}
 use Rattle.finish.specs.Sets.{Lowest}
-use Rattle.finish.proofs.Sets.{has-below, ones-without, without-others, lowest-rider}
+use Rattle.finish.proofs.Sets.{has-below, nobody-has, without-others, lowest-rider}
 use Rattle.right.specs.Reading.{Tight, Step, meets, drives}
 use Rattle.right.proofs.Reading.{some-tight}
 use Rattle.table.specs.Filling.{meetingStep}
@@ -23,15 +22,6 @@ use Rattle.table.proofs.RowLaws.{few-sets, place-within}
 use Rattle.search.specs.Known.{Known, Stands, valuePlace, valueAt, drivingStep, NoMeeting, Trying, Meeting, Passing, IsNext}
 use Rattle.search.specs.declared.steps.Move.{Move}
 use Rattle.search.proofs.TightLaws.{meeting-tight, tight-meeting, driving-tight, tight-drive}
-
--- "The number of riders still to be met is the count of ones in R": none exactly when R is empty
-pub nobody : ones 0 ≡ 0
-unfolding ones onesIn
-nobody = refl
-
-pub somebody : (R : ℕ) → ones R ≢ 0 → 0 < R
-somebody zero h = absurd (h nobody)
-somebody (suc R) h = omega arith
 
 module _ {network : List ℕ} {q : Request} {distances table : List ℕ} {R v : ℕ} (at : Stands network q distances table R v) where
   pub trying-none : Trying network q table R v R
@@ -78,7 +68,7 @@ module _ {network : List ℕ} {q : Request} {distances table : List ℕ} {R v : 
   trying-all {left} so nobody-left e =
       record {
         found = λ h. absurd (omega arith);
-        none = λ h j S x few tight. so .tried j S x few (λ has. (omega (arith, ones-without left j has))) tight;
+        none = λ h j S x few tight. so .tried j S x few (nobody-has left j nobody-left) tight;
       }
 
   pub passing-none : Passing network q table R v 0

@@ -6,7 +6,7 @@ use mathlib.Core.List.{List}
 use native.Mathlib.Nat.{le-refl}
 use native.Mathlib.Decide.{ℕ-discrete}
 use native.Mathlib.Omega.{arith}
-use lib.Count.{trailingZeros}
+use lib.Count.{ones, trailingZeros}
 use lib.ListN.{length, getD}
 use borrow.Author.Tests.{eq-eqb, ne-eqb}
 use Rattle.rules.specs.Network.{SoundNetwork, nodeCount}
@@ -18,7 +18,7 @@ use Rattle.rules.specs.declared.Request.{Request}
 use Rattle.least.specs.Least.{Least}
 use Rattle.finish.specs.Packed.{packedStep, Packed, Ends}
 use Rattle.finish.specs.Rows.{MetSeen}
-use Rattle.finish.proofs.Sets.{has-le, has-below, none-has, without-less, without-others, lowest-rider}
+use Rattle.finish.proofs.Sets.{has-le, has-below, somebody, nobody-has, without-less, without-others, lowest-rider}
 use Rattle.finish.proofs.Rows.{arrived-least, outside-more, none-seen, all-seen, rider-reaches, rider-strays}
 use Rattle.table.specs.Filling.{RowReady, Seeing, meetingStep}
 use Rattle.table.proofs.RowLaws.{place-within, few-sets}
@@ -65,9 +65,9 @@ module _ {network : List ℕ} {q : Request} {distances table : List ℕ} {R v : 
       (few-sets (room .walked .ready .request .riders) set, omega (arith, place-within set h, room .places))
 
   module _ {left least : ℕ} (so : Seeing network q R v left least) where
-    pub next-rider : left ≢ 0 → Next q R left (trailingZeros 32 left)
+    pub next-rider : ones left ≢ 0 → Next q R left (trailingZeros 32 left)
     next-rider some =
-        let low = lowest-rider 32 left (omega arith) (omega (arith, so .within, few-sets (room .walked .ready .request .riders) (room .row))) in
+        let low = lowest-rider 32 left (somebody left some) (omega (arith, so .within, few-sets (room .walked .ready .request .riders) (room .row))) in
         let met = so .of _ (low .has) in
         let below = has-below R _ (q .count) (room .row) met in
         record {
@@ -87,5 +87,5 @@ module _ {network : List ℕ} {q : Request} {distances table : List ℕ} {R v : 
           least = rider-seen j (outside-more left j has) (room .walked .ready .sound) h met (room .walked .walks j v (has-below R j (q .count) (room .row) met) h) (room .below (without R j) v (without-less R j met) h) (so .least);
         }
 
-  pub seeing-all : {least : ℕ} → 0 < R → Seeing network q R v 0 least → Least noFinish (Ends network q R v) least
-  seeing-all some so = all-seen some (λ j has. none-has j) (so .least)
+  pub seeing-all : {left least : ℕ} → 0 < R → ones left ≡ 0 → Seeing network q R v left least → Least noFinish (Ends network q R v) least
+  seeing-all {left} some nobody-left so = all-seen some (λ j has. nobody-has left j nobody-left) (so .least)

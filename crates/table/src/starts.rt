@@ -64,7 +64,7 @@ fn least_meeting(
 {
     let mut least = NO_FINISH;
     let mut left = riders;
-    while left != 0 {
+    while u32::count_ones(left) != 0 {
         let j = u32::trailing_zeros(left);
         let bit = rider_bit(j);
         let step = meeting_step(network, q, distances, j as usize, v);

@@ -2,11 +2,11 @@ use Prim.Native.Nat.{_^_, _≤_, _<_}
 use mathlib.Core.Path.{refl}
 use lib.Pow.{pow-pos}
 use Rattle.finish.specs.Sets.{Lowest}
-use Rattle.finish.proofs.Sets.{has-le}
+use Rattle.finish.proofs.Sets.{has-le, somebody}
 use native.Mathlib.Omega.{arith}
 use lib.Count.{trailingZeros}
 use Rattle.search.specs.Known.{Trying}
-use Rattle.search.proofs.StepLaws.{somebody, value-ready, trying-none, next-rider, rider-below, trying-more, trying-found, trying-all, made-up, not-made-up}
+use Rattle.search.proofs.StepLaws.{value-ready, trying-none, next-rider, rider-below, trying-more, trying-found, trying-all, made-up, not-made-up}
 use Rattle.search.proofs.steps.next_meeting.Statement.{statement}
 use Rattle.search.proofs.steps.next_meeting.Tie as tie
 

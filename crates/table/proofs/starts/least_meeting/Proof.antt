@@ -17,7 +17,7 @@ loop-holds : tie.Need-loop-holds Inv-loop μ-loop
 loop-holds c = seeing-none (c .before .before .before .pre .2) (c .before .before .before .pre .1)
 
 rider : (c : tie.In-loop Inv-loop μ-loop) → Next (c .before .before .before .before .before .args .q) (c .before .before .before .before .before .args .riders) (c .before .loop .left) (trailingZeros 32 (c .before .loop .left))
-rider c = next-rider (c .before .before .before .before .before .pre .2) (c .before .before .before .before .before .pre .1) (c .before .loop .inv) (c .loop-test .taken)
+rider c = next-rider (c .before .before .before .before .before .pre .2) (c .before .before .before .before .before .pre .1) (c .before .loop .inv) (λ nobody. omega (arith, c .loop-test .taken))
 
 rider-bit-requires : tie.Need-rider-bit-requires Inv-loop μ-loop
 rider-bit-requires c κs = omega (arith, rider c)
@@ -64,7 +64,7 @@ loop-again c =
 returns : tie.Need-returns Inv-loop μ-loop
 returns c =
     let known = c .before .before .before .before .before .pre in
-    seeing-all (known .2) (known .1) (known .0) (rw (c .loop-test .left) at (c .before .loop .inv))
+    seeing-all (known .2) (known .1) (known .0) (c .loop-test .left) (c .before .loop .inv)
 
 pub least-meeting-spec : {M : Type 1} → statement M
 least-meeting-spec =
