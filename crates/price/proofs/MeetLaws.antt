@@ -22,12 +22,12 @@ use Rattle.rules.specs.declared.Priced.{Priced}
 use Rattle.rules.specs.declared.Priced.the-variants.{Price as Costs, Refused}
 use Rattle.rules.proofs.PriceLaws.{sum-same}
 use Rattle.finish.proofs.Bounds.{walking-bounded}
-use Rattle.price.specs.Near.{RouteFrom, Near}
-use Rattle.price.specs.Meetings.{Driveable, Met, meetingsOf}
+use Rattle.price.specs.Near.{RouteFrom, NearestPosition}
+use Rattle.price.specs.Meetings.{Driveable, MetBelow, meetingsOf}
 use Rattle.price.proofs.RouteLaws.{sum-more}
 use Rattle.price.proofs.NearLaws.{node-below}
 
-module _ {network : List ℕ} (q : Request) {route : List ℕ} (j : ℕ) {position place : ℕ} (so : Near network (riderNodeOf q j) (q .source) route position place) where
+module _ {network : List ℕ} (q : Request) {route : List ℕ} (j : ℕ) {position place : ℕ} (so : NearestPosition network (riderNodeOf q j) (q .source) route position place) where
   -- the nearest position, where it can be walked to, is the meeting position
   pub near-meets : (place ≡ noDistance → ⊥) → Meeting network q route j position place
   near-meets walkable =
@@ -56,7 +56,7 @@ unfolding put
 put-other f j x i h = simp (ne-eqb i j h)
 
 module _ {network : List ℕ} {q : Request} {route : List ℕ} {driving : ℕ} (may : Driveable network q route driving) where
-  pub met-none : Met network q route driving 0 (q .weight * driving) (replicate 7 0)
+  pub met-none : MetBelow network q route driving 0 (q .weight * driving) (replicate 7 0)
   unfolding sum
   met-none =
       record {
@@ -68,9 +68,9 @@ module _ {network : List ℕ} {q : Request} {route : List ℕ} {driving : ℕ} (
         small = omega (arith, mul-le-mul (may .request .bus .1) (may .small));
       }
 
-  module _ {j price : ℕ} {meetings : List ℕ} (so : Met network q route driving j price meetings) (more : j < q .count) where
+  module _ {j price : ℕ} {meetings : List ℕ} (so : MetBelow network q route driving j price meetings) (more : j < q .count) where
     -- one rider more
-    pub met-more : {position place : ℕ} → Meeting network q route j position place → place ≤ noDistance → Met network q route driving (j + 1) (price + riderWeightOf q j * place) (set meetings j position)
+    pub met-more : {position place : ℕ} → Meeting network q route j position place → place ≤ noDistance → MetBelow network q route driving (j + 1) (price + riderWeightOf q j * place) (set meetings j position)
     met-more {position} {place} meeting low =
         record {
           within = omega arith;
@@ -95,7 +95,7 @@ module _ {network : List ℕ} {q : Request} {route : List ℕ} {driving : ℕ} (
         told refl
 
   -- all of them
-  pub met-all : {j price : ℕ} {meetings : List ℕ} → Met network q route driving j price meetings → q .count ≤ j → Pricing Accepted network q route (Costs price) (take (q .count) meetings)
+  pub met-all : {j price : ℕ} {meetings : List ℕ} → MetBelow network q route driving j price meetings → q .count ≤ j → Pricing Accepted network q route (Costs price) (take (q .count) meetings)
   met-all {j} {price} {meetings} so all =
       let e : j ≡ q .count = omega (arith, so .within) in
       priced price refl

@@ -13,7 +13,7 @@ use Rattle.rules.specs.Network.{nodeCount, linkStart, to}
 use Rattle.rules.specs.Walks.{HoldsDistance}
 use Rattle.rules.specs.Routes.{nodeAt}
 use Rattle.rules.proofs.WalkLaws.{holds-distance-unique}
-use Rattle.price.specs.Near.{RouteFrom, Near, Sofar, distanceAt, closerOf}
+use Rattle.price.specs.Near.{RouteFrom, NearestPosition, Sofar, distanceAt, closerOf}
 use Rattle.price.specs.declared.riders.Spot.{Spot}
 use Rattle.price.proofs.RouteLaws.{node-next}
 
@@ -62,7 +62,7 @@ node-below {network} {source} route so (suc i) h =
     rw (← add-one i, node-next network source route i h) (so .sound .ends _ (so .known .links i h))
 
 -- the nearest by a row of walking distances is the nearest
-pub near : {network : List ℕ} {rider source : ℕ} {route : List ℕ} (distances : List ℕ) {spot : Spot} → RouteFrom network source route → ((v : ℕ) → v < nodeCount network → HoldsDistance network rider v (getD distances v 0)) → Sofar (distanceAt network distances source route) (length route) spot → Near network rider source route (spot .position) (spot .distance)
+pub near : {network : List ℕ} {rider source : ℕ} {route : List ℕ} (distances : List ℕ) {spot : Spot} → RouteFrom network source route → ((v : ℕ) → v < nodeCount network → HoldsDistance network rider v (getD distances v 0)) → Sofar (distanceAt network distances source route) (length route) spot → NearestPosition network rider source route (spot .position) (spot .distance)
 near {route = route} distances from holds so =
     record {
       within = so .within;

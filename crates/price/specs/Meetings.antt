@@ -20,7 +20,7 @@ pub record Driveable (network : List ℕ) (q : Request) (route : List ℕ) (driv
   pub small : driving ≤ 268365825
 
 -- The riders below j are met, and what has been added up so far.
-pub record Met (network : List ℕ) (q : Request) (route : List ℕ) (driving j price : ℕ) (meetings : List ℕ) : Type 0 where
+pub record MetBelow (network : List ℕ) (q : Request) (route : List ℕ) (driving j price : ℕ) (meetings : List ℕ) : Type 0 where
   pub within : j ≤ q .count
   pub walking : ℕ → ℕ
   pub meets : (i : ℕ) → i < j → Meeting network q route i (getD meetings i 0) (walking i)

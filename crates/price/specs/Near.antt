@@ -18,7 +18,7 @@ pub record RouteFrom (network : List ℕ) (source : ℕ) (route : List ℕ) : Ty
   pub known : KnownRoute network route
 
 -- The earliest position whose place, distance or none, is least.
-pub record Near (network : List ℕ) (rider source : ℕ) (route : List ℕ) (position place : ℕ) : Type 0 where
+pub record NearestPosition (network : List ℕ) (rider source : ℕ) (route : List ℕ) (position place : ℕ) : Type 0 where
   pub within : position ≤ length route
   pub holds : HoldsDistance network rider (nodeAt network source route position) place
   pub least : (other x : ℕ) → other ≤ length route → HoldsDistance network rider (nodeAt network source route other) x → place ≤ x

@@ -13,7 +13,7 @@ ghost use lib.ListN.{length};
 ghost use Rattle.rules.specs.Network.{nodeCount};
 ghost use Rattle.rules.specs.Answers.{Pricing};
 ghost use Rattle.price.specs.Meetings.{Driveable, meetingsOf};
-ghost use Rattle.price.specs.Near.{RouteFrom, Near, Sofar, distanceAt, closerOf};
+ghost use Rattle.price.specs.Near.{RouteFrom, NearestPosition, Sofar, distanceAt, closerOf};
 
 // A position of a route and its walking distance from a rider.
 pub struct Spot {
@@ -65,7 +65,7 @@ pub fn meet_riders(network: &[u8], q: Request, route: &[u16], driving: u64) -> R
 // position can be walked to.
 pub fn nearest(network: &[u8], rider: usize, source: usize, route: &[u16]) -> Spot
     requires { ⌜ (rider < nodeCount (now network)) × RouteFrom (now network) source (now route) ⌝ }
-    ensures { λ r. ⌜ Near (now (network .entry)) rider source (now (route .entry)) (r .position) (r .distance) ⌝ }
+    ensures { λ r. ⌜ NearestPosition (now (network .entry)) rider source (now (route .entry)) (r .position) (r .distance) ⌝ }
 {
     let mut distances = [0u32; 512];
     walk_from(network, rider, &mut distances);

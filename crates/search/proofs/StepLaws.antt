@@ -19,7 +19,7 @@ use Rattle.right.specs.Reading.{Tight, Step, meets, drives}
 use Rattle.right.proofs.Reading.{some-tight}
 use Rattle.table.specs.Filling.{meetingStep}
 use Rattle.table.proofs.RowLaws.{few-sets, place-within}
-use Rattle.search.specs.Known.{Known, Stands, valuePlace, valueAt, drivingStep, NoMeeting, Trying, Meeting, Passing, IsNext}
+use Rattle.search.specs.Known.{Known, Stands, valuePlace, valueAt, drivingStep, NoMeeting, Trying, LowestMeeting, Passing, IsNext}
 use Rattle.search.specs.declared.steps.Move.{Move}
 use Rattle.search.proofs.TightLaws.{meeting-tight, tight-meeting, driving-tight, tight-drive}
 
@@ -50,7 +50,7 @@ module _ {network : List ℕ} {q : Request} {distances table : List ℕ} {R v : 
             ];
           }
 
-      pub trying-found : valueAt network table R v ≡ meetingStep (riderWeightOf q j) (getD distances (j * nodeCount network + v) 0) + valueAt network table (without R j) v → Meeting network q table R v (record { step = j; riders = without R j; node = v })
+      pub trying-found : valueAt network table R v ≡ meetingStep (riderWeightOf q j) (getD distances (j * nodeCount network + v) 0) + valueAt network table (without R j) v → LowestMeeting network q table R v (record { step = j; riders = without R j; node = v })
       trying-found e =
           record {
             found = λ h.
@@ -64,7 +64,7 @@ module _ {network : List ℕ} {q : Request} {distances table : List ℕ} {R v : 
             none = λ h. absurd (omega (arith, rider-below, at .known .walked .ready .request .riders));
           }
 
-  pub trying-all : {left : ℕ} {move : Move} → Trying network q table R v left → ones left ≡ 0 → move .step ≡ 8 → Meeting network q table R v move
+  pub trying-all : {left : ℕ} {move : Move} → Trying network q table R v left → ones left ≡ 0 → move .step ≡ 8 → LowestMeeting network q table R v move
   trying-all {left} so nobody-left e =
       record {
         found = λ h. absurd (omega arith);

@@ -12,7 +12,7 @@ use Rattle.rules.specs.Rooms.{Written, tablePlaces, stepPlaces, noFinish}
 use Rattle.rules.specs.declared.Request.{Request}
 use Rattle.finish.specs.Packed.{packedStep}
 use Rattle.right.specs.Reading.{Tight, Next, Reading, planValue}
-use Rattle.table.specs.Filling.{Walked, FilledBelow}
+use Rattle.table.specs.Filling.{KnownDistances, FilledBelow}
 use Rattle.search.specs.declared.steps.Move.{Move}
 
 abbrev pub valuePlace : List ℕ → ℕ → ℕ → ℕ
@@ -24,7 +24,7 @@ valueAt network table R v = getD table (valuePlace network R v) 0
 
 -- Sound records, the walking distances, and the whole table.
 pub record Known (network : List ℕ) (q : Request) (distances table : List ℕ) : Type 0 where
-  pub walked : Walked network q distances
+  pub walked : KnownDistances network q distances
   pub places : tablePlaces (nodeCount network) (q .count) ≤ length table
   pub filled : FilledBelow network q (2 ^ q .count) table
 
@@ -53,7 +53,7 @@ abbrev pub IsNext : List ℕ → Request → List ℕ → ℕ → ℕ → Move �
 IsNext network q table R v move = Next network q (valueAt network table) R v (move .step) (move .riders) (move .node)
 
 -- The lowest tight meeting is the next step; a step of 8 says that there is none.
-pub record Meeting (network : List ℕ) (q : Request) (table : List ℕ) (R v : ℕ) (move : Move) : Type 0 where
+pub record LowestMeeting (network : List ℕ) (q : Request) (table : List ℕ) (R v : ℕ) (move : Move) : Type 0 where
   pub found : move .step < 8 → IsNext network q table R v move
   pub none : 8 ≤ move .step → NoMeeting network q table R v
 

@@ -14,7 +14,7 @@ ghost use mathlib.Core.Path.{_≡_};
 ghost use lib.ListN.{length};
 ghost use lib.Dec.{eqb};
 ghost use Rattle.rules.specs.Network.{SoundNetwork, nodeCount, linkCount};
-ghost use Rattle.search.specs.Known.{Stands, valuePlace, valueAt, drivingStep, NoMeeting, IsNext, Meeting, Planning, PlanWritten};
+ghost use Rattle.search.specs.Known.{Stands, valuePlace, valueAt, drivingStep, NoMeeting, IsNext, LowestMeeting, Planning, PlanWritten};
 
 // A step of the plan, and where it leads: the riders then still to be met, and the node.
 pub struct Move {
@@ -51,7 +51,7 @@ fn next_meeting(
     v: usize,
 ) -> Move
     requires { ⌜ Stands (now network) q (now distances) (now table) riders v ⌝ }
-    ensures { λ r. ⌜ Meeting (now (network .entry)) q (now (table .entry)) riders v r ⌝ }
+    ensures { λ r. ⌜ LowestMeeting (now (network .entry)) q (now (table .entry)) riders v r ⌝ }
 {
     let here = value(network, table, riders, v);
     let mut left = riders;

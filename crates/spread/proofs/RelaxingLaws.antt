@@ -13,8 +13,8 @@ use Rattle.least.specs.Least.{Tentative}
 use Rattle.least.specs.Spread.{Spread}
 use Rattle.least.specs.Walking.{Linked}
 use Rattle.least.proofs.Trips.{tentative, relax, fixpoint}
-use Rattle.spread.specs.Walking.{Lent}
-use Rattle.spread.specs.Relaxing.{Relaxing, still, lowered, Relaxed, RelaxedBelow, total, Progress}
+use Rattle.spread.specs.Walking.{LentRoom}
+use Rattle.spread.specs.Relaxing.{Relaxing, still, lowered, RelaxedLink, RelaxedBelow, total, Progress}
 
 -- a property of every place after one store
 pub at-set : (P : ℕ → ℕ → Type 0) (t : List ℕ) (u x : ℕ) → u < length t → P u x → (i : ℕ) → P i (getD t i 0) → P i (getD (set t u x) i 0)
@@ -38,7 +38,7 @@ module _ {n : ℕ} {Arc : Arcs} {before : List ℕ} where
       }
 
   -- what an engine is lent stays fit for it
-  pub lent-after : {network after : List ℕ} → Lent network before → Relaxing n Arc before after → Lent network after
+  pub lent-after : {network after : List ℕ} → LentRoom network before → Relaxing n Arc before after → LentRoom network after
   lent-after lent so = record { sound = lent .sound; places = omega (arith, relaxing-kept so .size) }
 
   module _ {cap : ℕ} {Init : Inits} (inside : Inside n Arc) (fits : n ≤ length before) where
@@ -66,7 +66,7 @@ module _ {n : ℕ} {Arc : Arcs} where
       }
 
   -- a link whose only arc makes no sum smaller
-  pub only-arc : (Link : ℕ → Arcs) (k : ℕ) {t : List ℕ} {u v w : ℕ} → ((x y z : ℕ) → Link k x y z → (x ≡ u) × (y ≡ v) × (z ≡ w)) → getD t u 0 ≤ w + getD t v 0 → Progress n Arc (Relaxed Link k) t t 0
+  pub only-arc : (Link : ℕ → Arcs) (k : ℕ) {t : List ℕ} {u v w : ℕ} → ((x y z : ℕ) → Link k x y z → (x ≡ u) × (y ≡ v) × (z ≡ w)) → getD t u 0 ≤ w + getD t v 0 → Progress n Arc (RelaxedLink Link k) t t 0
   only-arc Link k only h = progress-none (λ x y z link. let (a, b, c) = only x y z link in rw (a, b, c) h)
 
   no-rise : {S : List ℕ → Type 0} {before after : List ℕ} (changes : ℕ) → Progress n Arc S before after changes → total after ≤ total before
@@ -92,11 +92,11 @@ module _ {n : ℕ} {Arc : Arcs} where
       }
 
   -- the links below k and then link k
-  pub next-link : {Link : ℕ → Arcs} {before mid after : List ℕ} {k c d : ℕ} → Progress n Arc (RelaxedBelow Link k) before mid c → Progress n Arc (Relaxed Link k) mid after d → Progress n Arc (RelaxedBelow Link (k + 1)) before after (c + d)
-  next-link {Link} {k = k} first second = progress-then (λ t below here. below-more (λ (i : ℕ). Relaxed Link i t) k below here) first second
+  pub next-link : {Link : ℕ → Arcs} {before mid after : List ℕ} {k c d : ℕ} → Progress n Arc (RelaxedBelow Link k) before mid c → Progress n Arc (RelaxedLink Link k) mid after d → Progress n Arc (RelaxedBelow Link (k + 1)) before after (c + d)
+  next-link {Link} {k = k} first second = progress-then (λ t below here. below-more (λ (i : ℕ). RelaxedLink Link i t) k below here) first second
 
 -- once no link makes a sum smaller, what stands there is what an engine promises
-pub spreads : {n : ℕ} {Link : ℕ → Arcs} {cap : ℕ} {before after : List ℕ} → Inside n (Linked Link) → n ≤ length before → ((u : ℕ) → u < n → getD before u 0 ≤ cap) → Relaxing n (Linked Link) before after → ((k : ℕ) → Relaxed Link k after) → Spread cap n (Linked Link) before after
+pub spreads : {n : ℕ} {Link : ℕ → Arcs} {cap : ℕ} {before after : List ℕ} → Inside n (Linked Link) → n ≤ length before → ((u : ℕ) → u < n → getD before u 0 ≤ cap) → Relaxing n (Linked Link) before after → ((k : ℕ) → RelaxedLink Link k after) → Spread cap n (Linked Link) before after
 spreads {before = before} {after} inside fits capped so relaxed =
     record {
       least = fixpoint inside (relaxing-sums inside fits (λ u h. tentative before u (capped u h)) so) (λ u v w h g a. relaxed (a .0) u v w (a .1));

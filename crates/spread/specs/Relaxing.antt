@@ -12,12 +12,12 @@ pub data Relaxing (n : ℕ) (Arc : Arcs) (before : List ℕ) : List ℕ → Type
       {after : List ℕ} (mid : List ℕ) (u v w : ℕ) → Relaxing n Arc before mid → u < n → Arc u v w → w + getD mid v 0 < getD mid u 0 → after ≡ set mid u (w + getD mid v 0) → Relaxing n Arc before after
 
 -- No arc of link k makes a sum of t smaller.
-abbrev pub Relaxed : (ℕ → Arcs) → ℕ → List ℕ → Type 0
-Relaxed Link k t = (u v w : ℕ) → Link k u v w → getD t u 0 ≤ w + getD t v 0
+abbrev pub RelaxedLink : (ℕ → Arcs) → ℕ → List ℕ → Type 0
+RelaxedLink Link k t = (u v w : ℕ) → Link k u v w → getD t u 0 ≤ w + getD t v 0
 
 -- No arc of the links below k does.
 abbrev pub RelaxedBelow : (ℕ → Arcs) → ℕ → List ℕ → Type 0
-RelaxedBelow Link k t = (i : ℕ) → i < k → Relaxed Link i t
+RelaxedBelow Link k t = (i : ℕ) → i < k → RelaxedLink Link i t
 
 unfoldable pub total : List ℕ → ℕ
 total [] = 0

@@ -7,7 +7,7 @@ use Rattle.rules.specs.Walks.{Walkable}
 use Rattle.least.specs.Trips.{Arcs, Turned}
 
 -- A sound network, and a room with a place for each node.
-pub record Lent (network room : List ℕ) : Type 0 where
+pub record LentRoom (network room : List ℕ) : Type 0 where
   pub sound : SoundNetwork network
   pub places : nodeCount network ≤ length room
 

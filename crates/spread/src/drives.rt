@@ -9,7 +9,7 @@ ghost use Rattle.rules.specs.Network.{nodeCount, linkCount};
 ghost use Rattle.rules.specs.Rooms.{noFinish};
 ghost use Rattle.least.specs.Spread.{Spread};
 ghost use Rattle.finish.specs.Packed.{DriveLink, DriveArc};
-ghost use Rattle.spread.specs.Relaxing.{Relaxed, RelaxedBelow, Progress};
+ghost use Rattle.spread.specs.Relaxing.{RelaxedLink, RelaxedBelow, Progress};
 ghost use Rattle.spread.specs.Driving.{LentRow};
 
 // Spreads packed sums along links open to a bus of that weight, from the values that stand in the row.
@@ -38,7 +38,7 @@ fn drive_round(network: &[u8], weight: u64, row: &mut [u64]) -> usize
 // Relaxes link k: 1 if the sum at its start is made smaller by driving it, and 0 if not.
 fn relax_drive(network: &[u8], weight: u64, k: usize, row: &mut [u64]) -> usize
     requires { ⌜ (k < linkCount (now network)) × LentRow (now network) weight (now row) ⌝ }
-    ensures { λ r. ⌜ (r ≤ 1) × Progress (nodeCount (now (network .entry))) (DriveArc (now (network .entry)) weight) (Relaxed (DriveLink (now (network .entry)) weight) k) (now (row .entry)) (now (row .exit)) r ⌝ }
+    ensures { λ r. ⌜ (r ≤ 1) × Progress (nodeCount (now (network .entry))) (DriveArc (now (network .entry)) weight) (RelaxedLink (DriveLink (now (network .entry)) weight) k) (now (row .entry)) (now (row .exit)) r ⌝ }
 {
     let cost = drive(network, k);
     if CLOSED <= cost {

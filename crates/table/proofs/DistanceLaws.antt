@@ -9,9 +9,9 @@ use Rattle.rules.specs.Request.{riderNodeOf}
 use Rattle.rules.specs.Walks.{HoldsDistance}
 use Rattle.rules.specs.Rooms.{Distances}
 use Rattle.rules.specs.declared.Request.{Request}
-use Rattle.spread.specs.Walking.{Lent}
+use Rattle.spread.specs.Walking.{LentRoom}
 use Rattle.walk.specs.Row.{Row}
-use Rattle.table.specs.Filling.{Ready, Walked, WalkedRows}
+use Rattle.table.specs.Filling.{Ready, KnownDistances, WalkedRows}
 use Rattle.table.proofs.RowLaws.{Lies, rowOf, putRow, lent-row, row-start, row-within, row-kept, kept-then, rows-put}
 
 module _ {network : List ℕ} {q : Request} {before : List ℕ} where
@@ -27,7 +27,7 @@ module _ {network : List ℕ} {q : Request} {before : List ℕ} where
           within = omega (arith, ready .places, row-within (nodeCount network) h, so .kept .size);
         }
 
-    pub row-lent : j < q .count → Lent network (rowOf (nodeCount network) j t)
+    pub row-lent : j < q .count → LentRoom network (rowOf (nodeCount network) j t)
     row-lent h = lent-row t j (ready .sound) (row-fits h .within)
 
     pub walked-more : {part : List ℕ} → j < q .count → Row network (riderNodeOf q j) (rowOf (nodeCount network) j t) part → WalkedRows network q (j + 1) before (putRow (nodeCount network) j t part)
@@ -44,7 +44,7 @@ module _ {network : List ℕ} {q : Request} {before : List ℕ} where
     walked-all all = let e : j ≡ q .count = omega (arith, so .within) in record { holds = rw e at (so .walks); kept = so .kept }
 
 -- what the work table is filled from
-pub distances-walked : {network : List ℕ} {q : Request} {before after : List ℕ} → Ready network q before → Distances network q before after → Walked network q after
+pub distances-walked : {network : List ℕ} {q : Request} {before after : List ℕ} → Ready network q before → Distances network q before after → KnownDistances network q after
 distances-walked ready so =
     record {
       ready = record { sound = ready .sound; request = ready .request; places = omega (arith, so .kept .size, ready .places) };

@@ -11,7 +11,7 @@ use borrow.Author.Count.{below-more}
 use borrow.Rule.Slice.PartMut.{midOf, putMid, mid-len, same-len-mid, drop-put}
 use Rattle.rules.specs.Network.{SoundNetwork, nodeCount}
 use Rattle.rules.specs.Rooms.{Kept}
-use Rattle.spread.specs.Walking.{Lent}
+use Rattle.spread.specs.Walking.{LentRoom}
 
 -- a row lies within the rows, and so does each of its places
 pub row-within : (n : ℕ) {rows row : ℕ} → row < rows → row * n + n ≤ rows * n
@@ -49,7 +49,7 @@ pub row-at : (n row : ℕ) (t : List ℕ) (v : ℕ) → v < n → getD (rowOf n 
 row-at n row t v h = getD-take (row * n + n - row * n) (drop (row * n) t) v 0 (omega arith) ∙ getD-drop (row * n) t v 0
 
 -- a row is room enough for an engine
-pub lent-row : {network : List ℕ} (t : List ℕ) (row : ℕ) → SoundNetwork network → row * nodeCount network + nodeCount network ≤ length t → Lent network (rowOf (nodeCount network) row t)
+pub lent-row : {network : List ℕ} (t : List ℕ) (row : ℕ) → SoundNetwork network → row * nodeCount network + nodeCount network ≤ length t → LentRoom network (rowOf (nodeCount network) row t)
 lent-row {network} t row sound within = record { sound = sound; places = omega (arith, mid-len (row * nodeCount network) _ t within) }
 
 module _ (n row : ℕ) (t part : List ℕ) (within : row * n + n ≤ length t) (size : length part ≡ length (rowOf n row t)) where

@@ -16,7 +16,7 @@ use Rattle.finish.specs.Packed.{Packed, DriveArc, Ends}
 use Rattle.finish.proofs.Bounds.{least-holds}
 use Rattle.finish.proofs.Rows.{row-least}
 use Rattle.spread.specs.Driving.{LentRow}
-use Rattle.table.specs.Filling.{Walked, RowReady, Filled, Started}
+use Rattle.table.specs.Filling.{KnownDistances, RowReady, Filled, Started}
 use Rattle.table.proofs.RowLaws.{Lies, rowOf, putRow, row-start, row-within, row-at, row-kept, place-within, few-sets, kept-then, kept-set, lent-row, rows-put}
 use Rattle.table.proofs.StartLaws.{place-there}
 
@@ -78,7 +78,7 @@ module _ {network : List ℕ} {q : Request} {distances before : List ℕ} {R : �
         starts : (v : ℕ) → v < nodeCount network → Least noFinish (Ends network q R v) (getD (rowOf (nodeCount network) R t) v 0)
         starts v h = rw (row-at (nodeCount network) R t v h) (so .starts v h)
 
-module _ {network : List ℕ} {q : Request} {distances before : List ℕ} (walked : Walked network q distances) where
+module _ {network : List ℕ} {q : Request} {distances before : List ℕ} (walked : KnownDistances network q distances) where
   pub filled-none : Filled network q 0 before before
   filled-none = record { within = omega arith; below = λ S v h. absurd (omega arith); kept = record { size = refl; later = refl } }
 

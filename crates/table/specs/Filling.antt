@@ -31,7 +31,7 @@ pub record WalkedRows (network : List ℕ) (q : Request) (j : ℕ) (before after
   pub kept : Kept (distancePlaces (nodeCount network) (q .count)) before after
 
 -- Sound records, and the riders' walking distances.
-pub record Walked (network : List ℕ) (q : Request) (distances : List ℕ) : Type 0 where
+pub record KnownDistances (network : List ℕ) (q : Request) (distances : List ℕ) : Type 0 where
   pub ready : Ready network q distances
   pub walks : WalkedBelow network q (q .count) distances
 
@@ -45,7 +45,7 @@ FilledBelow network q R table = (S v : ℕ) → S < R → v < nodeCount network 
 
 -- What row R is filled from: the walking distances and the rows below it.
 pub record RowReady (network : List ℕ) (q : Request) (distances : List ℕ) (R : ℕ) (table : List ℕ) : Type 0 where
-  pub walked : Walked network q distances
+  pub walked : KnownDistances network q distances
   pub places : tablePlaces (nodeCount network) (q .count) ≤ length table
   pub row : R < 2 ^ q .count
   pub below : FilledBelow network q R table

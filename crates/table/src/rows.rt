@@ -8,11 +8,11 @@ ghost use Prim.Native.Nat.{_+_, _≤_};
 ghost use lib.ListN.{length};
 ghost use Rattle.rules.specs.Network.{nodeCount};
 ghost use Rattle.rules.specs.Rooms.{Table, tablePlaces};
-ghost use Rattle.table.specs.Filling.{Walked, RowReady, Filled};
+ghost use Rattle.table.specs.Filling.{KnownDistances, RowReady, Filled};
 
 // Fills row after row, so that a row is there before any larger rider set asks for it.
 pub fn fill_table(network: &[u8], q: Request, distances: &[u32], table: &mut [u64])
-    requires { ⌜ Walked (now network) q (now distances) × (tablePlaces (nodeCount (now network)) (q .count) ≤ length (now table)) ⌝ }
+    requires { ⌜ KnownDistances (now network) q (now distances) × (tablePlaces (nodeCount (now network)) (q .count) ≤ length (now table)) ⌝ }
     ensures { λ _. ⌜ Table (now (network .entry)) q (now (table .entry)) (now (table .exit)) ⌝ }
 {
     let rows = rider_bit(q.count as u32);

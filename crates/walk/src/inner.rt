@@ -6,12 +6,12 @@ ghost use Prim.Native.Nat.{_<_, _≤_};
 ghost use mathlib.Core.Path.{_≡_};
 ghost use lib.ListN.{length};
 ghost use Rattle.rules.specs.Network.{nodeCount};
-ghost use Rattle.spread.specs.Walking.{Lent};
+ghost use Rattle.spread.specs.Walking.{LentRoom};
 ghost use Rattle.walk.specs.Row.{Row, cleared};
 
 // Fills a place for each node with its walking distance from `start`.
 pub fn walk_from(network: &[u8], start: usize, distances: &mut [u32])
-    requires { ⌜ (start < nodeCount (now network)) × Lent (now network) (now distances) ⌝ }
+    requires { ⌜ (start < nodeCount (now network)) × LentRoom (now network) (now distances) ⌝ }
     ensures { λ _. ⌜ Row (now (network .entry)) start (now (distances .entry)) (now (distances .exit)) ⌝ }
 {
     let n = node_count(network);

@@ -5,13 +5,13 @@ use native.Mathlib.Omega.{arith}
 use native.Mathlib.Nat.{mul-le-mul}
 use mathlib.Core.Path.{refl}
 use Rattle.rules.specs.Walks.{noDistance}
-use Rattle.price.specs.Meetings.{Met}
+use Rattle.price.specs.Meetings.{MetBelow}
 use Rattle.price.proofs.MeetLaws.{near-meets, near-stranded, met-none, met-more, met-stranded, met-all, route-from}
 use Rattle.price.proofs.riders.meet_riders.Statement.{statement}
 use Rattle.price.proofs.riders.meet_riders.Tie as tie
 
 abbrev Inv-loop : tie.InvT-loop
-Inv-loop network q route driving nodes weights meetings₀ weight price₀ j₀ meetings price j = Met network q route driving j price meetings
+Inv-loop network q route driving nodes weights meetings₀ weight price₀ j₀ meetings price j = MetBelow network q route driving j price meetings
 
 abbrev μ-loop : tie.MeasureT-loop
 μ-loop network q route driving nodes weights meetings₀ weight price₀ j₀ meetings price j = q .count - j
