@@ -16,7 +16,7 @@ pub fn step_line(network: &[u8], distances: &[u32], node: usize, step: usize) ->
     ensures { λ r. ⌜ Reads r (stepLine (now (network .entry)) (now (distances .entry)) node step) ⌝ }
 {
     if step < 8 {
-        let n = inner::two(network, 5);
+        let n = inner::node_count(network);
         let distance = distances[step * n + node];
         return meet_line(step as u64, node as u64, distance as u64);
     }

@@ -1,11 +1,10 @@
 -- What the program prints leaves one result.
-use Prim.Native.Nat.{ℕ, _<_, _≤_}
+use Prim.Native.Nat.{ℕ}
 use native.Mathlib.Omega.{arith}
 use mathlib.Core.Path.{_≡_, sym, _∙_, ap}
-use mathlib.Core.List.{List, _++_}
-use lib.ListN.{length, drop}
-use Rattle.rules.specs.Request.{source}
-use Rattle.rules.specs.Program.{printed, PlanText, requestPart}
+use mathlib.Core.List.{List}
+use lib.ListN.{length}
+use Rattle.rules.specs.Program.{PlanText, requestPart}
 use Rattle.rules.proofs.AnswerLaws.{searched-unique}
 use Rattle.output.specs.Text.{Printed, short, whole}
 

@@ -32,7 +32,7 @@ pub fn put_answer(
         return put_line(line, text, 0);
     };
     let end = put_line(lines::ok_line(cost, count as u64), text, 0);
-    let start = records::inner::two(request, 3);
+    let start = records::inner::request_source(request);
     put_steps(network, distances, start, &steps[0..count], text, end)
 }
 

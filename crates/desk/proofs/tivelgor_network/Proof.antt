@@ -5,10 +5,6 @@ use Rattle.desk.proofs.Numbers.{accepted-tells, refused-tells, network-
 use borrow.Author.Needs.{needs}
 use Rattle.desk.proofs.tivelgor_network.Statement.{statement}
 use Rattle.desk.proofs.tivelgor_network.Tie as tie
-use Rattle.desk.proofs.tivelgor_network.Reads as reads
-use Rattle.desk.proofs.tivelgor_network.Lts as lts
-use Rattle.desk.proofs.refusal_number.Reads as refusal-number-reads
-use Rattle.records.proofs.read_network.Reads as read-network-reads
 
 read-network-requires : tie.Need-read-network-requires
 read-network-requires c κs = search needs

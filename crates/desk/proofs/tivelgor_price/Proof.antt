@@ -6,10 +6,6 @@ use Rattle.desk.proofs.Numbers.{price-refusal}
 use borrow.Author.Needs.{needs}
 use Rattle.desk.proofs.tivelgor_price.Statement.{statement}
 use Rattle.desk.proofs.tivelgor_price.Tie as tie
-use Rattle.desk.proofs.tivelgor_price.Reads as reads
-use Rattle.desk.proofs.tivelgor_price.Lts as lts
-use Rattle.desk.proofs.refusal_number.Reads as refusal-number-reads
-use Rattle.price.proofs.price.Reads as price-reads
 
 price-requires : tie.Need-price-requires
 price-requires c κs = search needs

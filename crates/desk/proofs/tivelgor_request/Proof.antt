@@ -4,10 +4,6 @@ use Rattle.desk.proofs.Numbers.{accepted-tells, refused-tells, request-
 use borrow.Author.Needs.{needs}
 use Rattle.desk.proofs.tivelgor_request.Statement.{statement}
 use Rattle.desk.proofs.tivelgor_request.Tie as tie
-use Rattle.desk.proofs.tivelgor_request.Reads as reads
-use Rattle.desk.proofs.tivelgor_request.Lts as lts
-use Rattle.desk.proofs.refusal_number.Reads as refusal-number-reads
-use Rattle.records.proofs.read_request.Reads as read-request-reads
 
 read-request-requires : tie.Need-read-request-requires
 read-request-requires c κs = search needs

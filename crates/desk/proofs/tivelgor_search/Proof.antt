@@ -6,10 +6,6 @@ use Rattle.desk.proofs.Numbers.{plan-refusal, plan-small}
 use borrow.Author.Needs.{needs}
 use Rattle.desk.proofs.tivelgor_search.Statement.{statement}
 use Rattle.desk.proofs.tivelgor_search.Tie as tie
-use Rattle.desk.proofs.tivelgor_search.Reads as reads
-use Rattle.desk.proofs.tivelgor_search.Lts as lts
-use Rattle.desk.proofs.refusal_number.Reads as refusal-number-reads
-use Rattle.search.proofs.search.Reads as search-reads
 
 search-requires : tie.Need-search-requires
 search-requires c κs = search needs

@@ -3,10 +3,6 @@ use Rattle.desk.proofs.Numbers.{accepted-tells, refused-tells, walk-ref
 use borrow.Author.Needs.{needs}
 use Rattle.desk.proofs.tivelgor_walk.Statement.{statement}
 use Rattle.desk.proofs.tivelgor_walk.Tie as tie
-use Rattle.desk.proofs.tivelgor_walk.Reads as reads
-use Rattle.desk.proofs.tivelgor_walk.Lts as lts
-use Rattle.desk.proofs.refusal_number.Reads as refusal-number-reads
-use Rattle.walk.proofs.walk.Reads as walk-reads
 
 walk-requires : tie.Need-walk-requires
 walk-requires c κs = search needs

@@ -2,9 +2,6 @@ use Prim.Native.Nat.{_-_}
 use borrow.Author.Needs.{needs}
 use Rattle.listing.proofs.main.Statement.{statement}
 use Rattle.listing.proofs.main.Tie as tie
-use Rattle.listing.proofs.answers.outcome.Reads as outcome-reads
-use Rattle.listing.proofs.counted.Reads as counted-reads
-use Rattle.listing.proofs.print_number.Reads as print-number-reads
 
 abbrev Inv-loop : tie.InvT-loop
 Inv-loop counts₀ i₀ t4 t5 t6 counts i = Unit

@@ -1,11 +1,9 @@
-use native.Mathlib.Omega.{arith}
 use mathlib.Core.Path.{refl}
 use Rattle.output.specs.Text.{short}
 use Rattle.output.proofs.PutLaws.{printed-whole, printed-all}
 use borrow.Author.Needs.{needs}
 use Rattle.output.proofs.print.Statement.{statement}
 use Rattle.output.proofs.print.Tie as tie
-use Rattle.output.proofs.print_taken.Reads as print-taken-reads
 
 returns : tie.Need-returns
 returns c = short (search needs) refl refl

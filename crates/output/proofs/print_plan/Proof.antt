@@ -1,10 +1,7 @@
-use native.Mathlib.Omega.{arith}
 use Rattle.output.proofs.AnswerLaws.{answered}
 use borrow.Author.Needs.{needs}
 use Rattle.output.proofs.print_plan.Statement.{statement}
 use Rattle.output.proofs.print_plan.Tie as tie
-use Rattle.output.proofs.pieces.put_answer.Reads as put-answer-reads
-use Rattle.search.proofs.search.Reads as search-reads
 
 slice-aggregate-search : tie.Need-slice-aggregate-search
 slice-aggregate-search c = search needs

@@ -4,8 +4,6 @@ use Rattle.output.proofs.PutLaws.{parted}
 use borrow.Author.Needs.{needs}
 use Rattle.output.proofs.print_taken.Statement.{statement}
 use Rattle.output.proofs.print_taken.Tie as tie
-use Rattle.output.proofs.print_plan.Reads as print-plan-reads
-use Rattle.records.proofs.network_size.Reads as network-size-reads
 
 network-size-requires : tie.Need-network-size-requires
 network-size-requires c κs = search needs

@@ -2,9 +2,6 @@ use Prim.Native.Nat.{_-_}
 use borrow.Author.Needs.{needs}
 use Rattle.searches.proofs.main.Statement.{statement}
 use Rattle.searches.proofs.main.Tie as tie
-use Rattle.io.proofs.print_decimal.Reads as print-decimal-reads
-use Rattle.io.proofs.write_all.Reads as write-all-reads
-use Rattle.searches.proofs.case_passes.Reads as case-passes-reads
 
 abbrev Inv-loop : tie.InvT-loop
 Inv-loop i₀ t2 i = Unit

@@ -5,11 +5,11 @@ use borrow.Author.Needs.{needs}
 use Rattle.lines.proofs.step.step_line.Statement.{statement}
 use Rattle.lines.proofs.step.step_line.Tie as tie
 
-two-requires : tie.Need-two-requires
-two-requires c κs = search needs
+node-count-requires : tie.Need-node-count-requires
+node-count-requires c κs = search needs
 
-place : (c : tie.After-two) → c .before .before .before .before .args .step * c .two .result + c .before .before .before .before .args .node < 3584
-place c = place-small (c .before .before .before .before .pre .0) (search needs) (c .two .ensures .value)
+place : (c : tie.After-node-count) → c .before .before .before .before .args .step * c .node-count .result + c .before .before .before .before .args .node < 3584
+place c = place-small (c .before .before .before .before .pre .0) (search needs) (c .node-count .ensures .value)
 
 mul-distance : tie.Need-mul-distance
 mul-distance c = omega (arith, place c)
@@ -24,13 +24,13 @@ shared-slice-read-distance : tie.Need-shared-slice-read-distance
 shared-slice-read-distance c = omega (arith, place (c .before), c .before .before .before .before .before .pre .1)
 
 cast-meet-line : tie.Need-cast-meet-line
-cast-meet-line c = omega (arith, c .shared-slice-known3 .given (c .before .before .before .before .before .args .step * c .before .two .result + c .before .before .before .before .before .args .node))
+cast-meet-line c = omega (arith, c .shared-slice-known3 .given (c .before .before .before .before .before .args .step * c .before .node-count .result + c .before .before .before .before .before .args .node))
 
 meet-line-requires : tie.Need-meet-line-requires
 meet-line-requires c κs = search needs
 
 returns : tie.Need-returns
-returns c = meet-reads (c .before .before .before .before .before .before .args .network .now) (c .before .before .before .before .before .before .args .distances .now) (c .before .before .before .before .before .before .args .node) (c .before .before .before .before .before .before .args .step) (search needs) (c .before .before .two .ensures .value) (c .meet-line .ensures)
+returns c = meet-reads (c .before .before .before .before .before .before .args .network .now) (c .before .before .before .before .before .before .args .distances .now) (c .before .before .before .before .before .before .args .node) (c .before .before .before .before .before .before .args .step) (search needs) (c .before .before .node-count .ensures .value) (c .meet-line .ensures)
 
 from-requires : tie.Need-from-requires
 from-requires c κs = link-within (c .before .before .before .pre .0) (search needs)
@@ -48,7 +48,7 @@ pub step-line-spec : {M : Type 1} → statement M
 step-line-spec =
     tie.close
     (tie.spec
-    two-requires
+    node-count-requires
     mul-distance
     add-distance
     mul-distance-2

@@ -2,8 +2,6 @@ use Prim.Native.Nat.{_-_}
 use borrow.Author.Needs.{needs}
 use Rattle.listing.proofs.answers.put_distances.Statement.{statement}
 use Rattle.listing.proofs.answers.put_distances.Tie as tie
-use Rattle.listing.proofs.answers.distance_place.Reads as distance-place-reads
-use Rattle.listing.proofs.walks.distance.Reads as distance-reads
 
 abbrev Inv-loop : tie.InvT-loop
 Inv-loop answer₀ town distances n i₀ answer i = Unit

@@ -2,9 +2,6 @@ use Prim.Native.Nat.{_-_}
 use borrow.Author.Needs.{needs}
 use Rattle.listing.proofs.answers.put_table.Statement.{statement}
 use Rattle.listing.proofs.answers.put_table.Tie as tie
-use Rattle.listing.proofs.answers.all_riders.Reads as all-riders-reads
-use Rattle.listing.proofs.answers.table_place.Reads as table-place-reads
-use Rattle.listing.proofs.finishes.best_finish.Reads as best-finish-reads
 
 abbrev Inv-loop : tie.InvT-loop
 Inv-loop answer₀ town distances n i₀ answer i = Unit

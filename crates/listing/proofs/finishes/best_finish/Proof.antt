@@ -2,12 +2,6 @@ use Prim.Native.Nat.{_-_}
 use borrow.Author.Needs.{needs}
 use Rattle.listing.proofs.finishes.best_finish.Statement.{statement}
 use Rattle.listing.proofs.finishes.best_finish.Tie as tie
-use Rattle.listing.proofs.finishes.finish.Reads as finish-reads
-use Rattle.listing.proofs.finishes.most_links.Reads as most-links-reads
-use Rattle.listing.proofs.paths.empty.Reads as empty-reads
-use Rattle.listing.proofs.paths.next.Reads as next-reads
-use Rattle.listing.proofs.plans.right_one.Reads as right-one-reads
-use Rattle.listing.proofs.plans.without_steps.Reads as without-steps-reads
 
 abbrev Inv-loop : tie.InvT-loop
 Inv-loop town distances riders start most best₀ drive₀ listed₀ best drive listed = Unit

@@ -2,8 +2,6 @@ use Prim.Native.Nat.{_-_}
 use borrow.Author.Needs.{needs}
 use Rattle.listing.proofs.generator.put_links.Statement.{statement}
 use Rattle.listing.proofs.generator.put_links.Tie as tie
-use Rattle.listing.proofs.generator.cost.Reads as cost-reads
-use Rattle.listing.proofs.generator.roll.Reads as roll-reads
 
 abbrev Inv-loop : tie.InvT-loop
 Inv-loop town₀ i n k₀ town k = Unit

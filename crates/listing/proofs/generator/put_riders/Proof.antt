@@ -2,7 +2,6 @@ use Prim.Native.Nat.{_-_}
 use borrow.Author.Needs.{needs}
 use Rattle.listing.proofs.generator.put_riders.Statement.{statement}
 use Rattle.listing.proofs.generator.put_riders.Tie as tie
-use Rattle.listing.proofs.generator.roll.Reads as roll-reads
 
 abbrev Inv-loop : tie.InvT-loop
 Inv-loop town₀ i n j₀ town j = Unit

@@ -2,7 +2,6 @@ use native.Mathlib.Nat.{le-of-lt, mod-lt}
 use borrow.Author.Needs.{needs}
 use Rattle.listing.proofs.generator.roll.Statement.{statement}
 use Rattle.listing.proofs.generator.roll.Tie as tie
-use Rattle.listing.proofs.generator.mixed.Reads as mixed-reads
 
 returns : tie.Need-returns
 returns c = search needs

@@ -2,9 +2,6 @@ use Prim.Native.Nat.{_-_}
 use borrow.Author.Needs.{needs}
 use Rattle.listing.proofs.meetings.nearest_position.Statement.{statement}
 use Rattle.listing.proofs.meetings.nearest_position.Tie as tie
-use Rattle.listing.proofs.meetings.nearer.Reads as nearer-reads
-use Rattle.listing.proofs.paths.node_at.Reads as node-at-reads
-use Rattle.listing.proofs.walks.distance.Reads as distance-reads
 
 abbrev Inv-loop : tie.InvT-loop
 Inv-loop town distances drive j nearest₀ i₀ nearest i = Unit

@@ -2,12 +2,6 @@ use Prim.Native.Nat.{_-_}
 use borrow.Author.Needs.{needs}
 use Rattle.listing.proofs.meetings.priced.Statement.{statement}
 use Rattle.listing.proofs.meetings.priced.Tie as tie
-use Rattle.listing.proofs.meetings.met_at.Reads as met-at-reads
-use Rattle.listing.proofs.meetings.nearest_position.Reads as nearest-position-reads
-use Rattle.listing.proofs.meetings.walked.Reads as walked-reads
-use Rattle.listing.proofs.paths.sum.Reads as sum-reads
-use Rattle.listing.proofs.sums.plus.Reads as plus-reads
-use Rattle.listing.proofs.sums.times.Reads as times-reads
 
 abbrev Inv-loop : tie.InvT-loop
 Inv-loop town distances riders drive price₀ positions₀ j₀ price positions j = Unit

@@ -2,7 +2,6 @@ use Prim.Native.Nat.{_-_}
 use borrow.Author.Needs.{needs}
 use Rattle.listing.proofs.paths.link_from.Statement.{statement}
 use Rattle.listing.proofs.paths.link_from.Tie as tie
-use Rattle.listing.proofs.paths.leaves.Reads as leaves-reads
 
 abbrev Inv-loop : tie.InvT-loop
 Inv-loop town cost node lowest k₀ k = Unit

@@ -2,9 +2,6 @@ use Prim.Native.Nat.{_-_}
 use borrow.Author.Needs.{needs}
 use Rattle.listing.proofs.paths.sum.Statement.{statement}
 use Rattle.listing.proofs.paths.sum.Tie as tie
-use Rattle.listing.proofs.paths.link_at.Reads as link-at-reads
-use Rattle.listing.proofs.paths.number.Reads as number-reads
-use Rattle.listing.proofs.sums.plus.Reads as plus-reads
 
 abbrev Inv-loop : tie.InvT-loop
 Inv-loop town cost path total₀ i₀ total i = Unit

@@ -1,10 +1,6 @@
 use borrow.Author.Needs.{needs}
 use Rattle.listing.proofs.paths.turned.Statement.{statement}
 use Rattle.listing.proofs.paths.turned.Tie as tie
-use Rattle.listing.proofs.paths.link_at.Reads as link-at-reads
-use Rattle.listing.proofs.paths.link_from.Reads as link-from-reads
-use Rattle.listing.proofs.paths.number.Reads as number-reads
-use Rattle.listing.proofs.paths.with.Reads as with-reads
 
 abbrev Inv-loop : tie.InvT-loop
 Inv-loop town cost path i₀ i = Unit

@@ -2,10 +2,6 @@ use Prim.Native.Nat.{_-_}
 use borrow.Author.Needs.{needs}
 use Rattle.listing.proofs.plans.of_drive.Statement.{statement}
 use Rattle.listing.proofs.plans.of_drive.Tie as tie
-use Rattle.listing.proofs.paths.link_at.Reads as link-at-reads
-use Rattle.listing.proofs.plans.with_riders.Reads as with-riders-reads
-use Rattle.listing.proofs.plans.with_step.Reads as with-step-reads
-use Rattle.listing.proofs.plans.without_steps.Reads as without-steps-reads
 
 abbrev Inv-loop : tie.InvT-loop
 Inv-loop drive positions plan₀ i₀ plan i = Unit

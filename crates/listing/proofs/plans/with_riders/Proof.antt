@@ -2,7 +2,6 @@ use Prim.Native.Nat.{_-_}
 use borrow.Author.Needs.{needs}
 use Rattle.listing.proofs.plans.with_riders.Statement.{statement}
 use Rattle.listing.proofs.plans.with_riders.Tie as tie
-use Rattle.listing.proofs.plans.with_rider.Reads as with-rider-reads
 
 abbrev Inv-loop : tie.InvT-loop
 Inv-loop position positions plan₀ j₀ plan j = Unit

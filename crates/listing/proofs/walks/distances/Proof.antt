@@ -2,7 +2,6 @@ use Prim.Native.Nat.{_-_}
 use borrow.Author.Needs.{needs}
 use Rattle.listing.proofs.walks.distances.Statement.{statement}
 use Rattle.listing.proofs.walks.distances.Tie as tie
-use Rattle.listing.proofs.walks.list_walks.Reads as list-walks-reads
 
 abbrev Inv-loop : tie.InvT-loop
 Inv-loop town distances₀ j₀ distances j = Unit

@@ -2,13 +2,6 @@ use Prim.Native.Nat.{_-_}
 use borrow.Author.Needs.{needs}
 use Rattle.listing.proofs.walks.list_walks.Statement.{statement}
 use Rattle.listing.proofs.walks.list_walks.Tie as tie
-use Rattle.listing.proofs.paths.empty.Reads as empty-reads
-use Rattle.listing.proofs.paths.next.Reads as next-reads
-use Rattle.listing.proofs.paths.node_at.Reads as node-at-reads
-use Rattle.listing.proofs.paths.other_nodes.Reads as other-nodes-reads
-use Rattle.listing.proofs.paths.sum.Reads as sum-reads
-use Rattle.listing.proofs.walks.lower.Reads as lower-reads
-use Rattle.listing.proofs.walks.pair.Reads as pair-reads
 
 abbrev Inv-loop : tie.InvT-loop
 Inv-loop town j distances₀ walk₀ listed₀ distances walk listed = Unit

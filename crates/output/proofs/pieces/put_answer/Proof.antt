@@ -5,11 +5,6 @@ use Rattle.output.proofs.AnswerLaws.{rides-from, put-refused, put-plann
 use borrow.Author.Needs.{needs}
 use Rattle.output.proofs.pieces.put_answer.Statement.{statement}
 use Rattle.output.proofs.pieces.put_answer.Tie as tie
-use Rattle.lines.proofs.ok_line.Reads as ok-line-reads
-use Rattle.lines.proofs.refused_line.Reads as refused-line-reads
-use Rattle.output.proofs.pieces.put_line.Reads as put-line-reads
-use Rattle.output.proofs.pieces.put_steps.Reads as put-steps-reads
-use Rattle.records.proofs.inner.two.Reads as two-reads
 
 enum-known-answer : tie.Need-enum-known-answer
 enum-known-answer c = search needs
@@ -47,8 +42,8 @@ ok-line-requires c κs = search needs
 put-line-requires-2 : tie.Need-put-line-requires-2
 put-line-requires-2 c κs = search needs
 
-two-requires : tie.Need-two-requires
-two-requires c κs = omega (arith, c .before .before .before .before .before .before .before .before .before .before .before .before .before .pre .0 .found _ _ (c .before .before .before .before .before .before .answer .given .1) .long)
+request-source-requires : tie.Need-request-source-requires
+request-source-requires c κs = omega (arith, c .before .before .before .before .before .before .before .before .before .before .before .before .before .pre .0 .found _ _ (c .before .before .before .before .before .before .answer .given .1) .long)
 
 sub-put-steps : tie.Need-sub-put-steps
 sub-put-steps c = search needs
@@ -62,13 +57,13 @@ part-put-steps-end c = omega (arith, c .before .before .before .before .before .
 put-steps-requires : tie.Need-put-steps-requires
 put-steps-requires c κs =
     let found = c .before .before .before .before .before .before .before .before .before .before .before .before .before .before .before .before .pre .0 .found _ _ (c .before .before .before .before .before .before .before .before .before .answer .given .1) in
-    (rides-from (c .before .before .before .before .before .before .before .before .before .before .before .before .before .before .before .before .args .steps .now) (c .before .before .before .before .before .before .before .before .before .answer .given .0 .1 .0) (c .before .before .two .ensures .value) (found .rides), c .before .before .before .before .before .before .before .before .before .before .before .before .before .before .before .before .pre .0 .room, steps-room (c .before .before .before .before .before .before .before .before .before .before .before .before .before .before .before .before .args .steps .now) (found .within) (c .before .before .before .before .before .before .before .before .before .before .before .before .before .before .before .before .pre .0 .few) (c .before .before .before .before .before .before .before .ok-line .ensures) (c .before .before .before .before .before .put-line2 .ensures) (c .before .before .before .before .before .before .before .before .before .before .before .before .before .before .before .before .pre .1))
+    (rides-from (c .before .before .before .before .before .before .before .before .before .before .before .before .before .before .before .before .args .steps .now) (c .before .before .before .before .before .before .before .before .before .answer .given .0 .1 .0) (c .before .before .request-source .ensures .value) (found .rides), c .before .before .before .before .before .before .before .before .before .before .before .before .before .before .before .before .pre .0 .room, steps-room (c .before .before .before .before .before .before .before .before .before .before .before .before .before .before .before .before .args .steps .now) (found .within) (c .before .before .before .before .before .before .before .before .before .before .before .before .before .before .before .before .pre .0 .few) (c .before .before .before .before .before .before .before .ok-line .ensures) (c .before .before .before .before .before .put-line2 .ensures) (c .before .before .before .before .before .before .before .before .before .before .before .before .before .before .before .before .pre .1))
 
 same-length-2 : tie.Need-same-length-2
 same-length-2 c = search needs
 
 returns-3 : tie.Need-returns-3
-returns-3 c = put-planned (c .before .before .before .before .before .before .before .before .before .before .before .before .before .before .before .before .before .before .before .args .network .now) (c .before .before .before .before .before .before .before .before .before .before .before .before .before .before .before .before .before .before .before .args .distances .now) (c .before .before .before .before .before .before .before .before .before .before .before .before .before .before .before .before .before .before .before .args .steps .now) (source (c .before .before .before .before .before .before .before .before .before .before .before .before .before .before .before .before .before .before .before .args .request .now)) (c .before .before .before .before .before .before .before .before .before .before .before .before .before .before .before .before .before .before .before .args .answer) (c .before .before .before .before .before .before .before .before .before .before .before .before .answer .given .1) (c .before .before .before .before .before .before .before .before .before .before .ok-line .ensures) (c .before .before .before .before .before .before .before .before .put-line2 .ensures) (c .before .before .before .before .before .two .ensures .value) (c .before .before .put-steps .ensures)
+returns-3 c = put-planned (c .before .before .before .before .before .before .before .before .before .before .before .before .before .before .before .before .before .before .before .args .network .now) (c .before .before .before .before .before .before .before .before .before .before .before .before .before .before .before .before .before .before .before .args .distances .now) (c .before .before .before .before .before .before .before .before .before .before .before .before .before .before .before .before .before .before .before .args .steps .now) (source (c .before .before .before .before .before .before .before .before .before .before .before .before .before .before .before .before .before .before .before .args .request .now)) (c .before .before .before .before .before .before .before .before .before .before .before .before .before .before .before .before .before .before .before .args .answer) (c .before .before .before .before .before .before .before .before .before .before .before .before .answer .given .1) (c .before .before .before .before .before .before .before .before .before .before .ok-line .ensures) (c .before .before .before .before .before .before .before .before .put-line2 .ensures) (c .before .before .before .before .before .request-source .ensures .value) (c .before .before .put-steps .ensures)
 
 pub put-answer-spec : {M : Type 1} → statement M
 put-answer-spec =
@@ -86,7 +81,7 @@ put-answer-spec =
     returns-2
     ok-line-requires
     put-line-requires-2
-    two-requires
+    request-source-requires
     sub-put-steps
     part-put-steps-start
     part-put-steps-end

@@ -1,8 +1,6 @@
 use borrow.Author.Tests.{lt-ltb, le-ltb}
 use Rattle.records.proofs.common.outside.Statement.{statement}
 use Rattle.records.proofs.common.outside.Tie as tie
-use Rattle.records.proofs.common.outside.Reads as reads
-use Rattle.records.proofs.common.outside.Lts as lts
 
 -- src/common.rt:10:9
 returns : tie.Need-returns

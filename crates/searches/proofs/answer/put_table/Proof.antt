@@ -2,7 +2,6 @@ use Prim.Native.Nat.{_-_}
 use borrow.Author.Needs.{needs}
 use Rattle.searches.proofs.answer.put_table.Statement.{statement}
 use Rattle.searches.proofs.answer.put_table.Tie as tie
-use Rattle.searches.proofs.answer.finish.Reads as finish-reads
 
 abbrev Inv-loop : tie.InvT-loop
 Inv-loop answer₀ n table i₀ answer i = Unit

@@ -2,14 +2,6 @@ use Prim.Native.Nat.{_-_}
 use borrow.Author.Needs.{needs}
 use Rattle.searches.proofs.rooms.passes.Statement.{statement}
 use Rattle.searches.proofs.rooms.passes.Tie as tie
-use Rattle.searches.proofs.answer.passes.Reads as passes-reads
-use Rattle.searches.proofs.answer.put_distances.Reads as put-distances-reads
-use Rattle.searches.proofs.answer.put_steps.Reads as put-steps-reads
-use Rattle.searches.proofs.answer.put_table.Reads as put-table-reads
-use Rattle.searches.proofs.answer.refused.Reads as refused-reads
-use Rattle.searches.proofs.rooms.lent.Reads as lent-reads
-use Rattle.searches.proofs.rooms.right.Reads as right-reads
-use Rattle.trial.proofs.inner.searched.Reads as searched-reads
 
 abbrev Inv-loop : tie.InvT-loop
 Inv-loop case town steps distances table needs filled rooms₀ rooms = Unit

@@ -2,7 +2,6 @@ use Prim.Native.Nat.{_-_}
 use borrow.Author.Needs.{needs}
 use Rattle.searches.proofs.rows.put_riders.Statement.{statement}
 use Rattle.searches.proofs.rows.put_riders.Tie as tie
-use Rattle.searches.proofs.rows.at.Reads as at-reads
 
 abbrev Inv-loop : tie.InvT-loop
 Inv-loop town₀ request i₀ town i = Unit

@@ -2,8 +2,6 @@ use Prim.Native.Nat.{_-_}
 use borrow.Author.Needs.{needs}
 use Rattle.tolls.proofs.networks.put_town.Statement.{statement}
 use Rattle.tolls.proofs.networks.put_town.Tie as tie
-use Rattle.tolls.proofs.networks.put_link.Reads as put-link-reads
-use Rattle.tolls.proofs.networks.town_link.Reads as town-link-reads
 
 abbrev Inv-loop : tie.InvT-loop
 Inv-loop bytes₀ k₀ bytes k = Unit

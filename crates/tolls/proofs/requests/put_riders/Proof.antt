@@ -2,7 +2,6 @@ use Prim.Native.Nat.{_-_}
 use borrow.Author.Needs.{needs}
 use Rattle.tolls.proofs.requests.put_riders.Statement.{statement}
 use Rattle.tolls.proofs.requests.put_riders.Tie as tie
-use Rattle.tolls.proofs.bytes.low.Reads as low-reads
 
 abbrev Inv-loop : tie.InvT-loop
 Inv-loop bytes₀ row j₀ bytes j = Unit

@@ -2,9 +2,6 @@ use Prim.Native.Nat.{_-_}
 use borrow.Author.Needs.{needs}
 use Rattle.tolls.proofs.routes.bytes.Statement.{statement}
 use Rattle.tolls.proofs.routes.bytes.Tie as tie
-use Rattle.tolls.proofs.bytes.high.Reads as high-reads
-use Rattle.tolls.proofs.bytes.low.Reads as low-reads
-use Rattle.tolls.proofs.routes.wide.Reads as wide-reads
 
 abbrev Inv-loop : tie.InvT-loop
 Inv-loop route bytes₀ i₀ bytes i = Unit

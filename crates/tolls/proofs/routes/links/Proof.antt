@@ -2,7 +2,6 @@ use Prim.Native.Nat.{_-_}
 use borrow.Author.Needs.{needs}
 use Rattle.tolls.proofs.routes.links.Statement.{statement}
 use Rattle.tolls.proofs.routes.links.Tie as tie
-use Rattle.tolls.proofs.routes.link_at.Reads as link-at-reads
 
 abbrev Inv-loop : tie.InvT-loop
 Inv-loop count last route₀ i₀ route i = Unit

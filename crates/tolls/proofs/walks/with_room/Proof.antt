@@ -2,7 +2,6 @@ use Prim.Native.Nat.{_-_}
 use borrow.Author.Needs.{needs}
 use Rattle.tolls.proofs.walks.with_room.Statement.{statement}
 use Rattle.tolls.proofs.walks.with_room.Tie as tie
-use Rattle.tolls.proofs.walks.wide.Reads as wide-reads
 
 abbrev Inv-loop : tie.InvT-loop
 Inv-loop room answer₀ i₀ answer i = Unit

@@ -2,7 +2,6 @@ use Prim.Native.Nat.{_-_}
 use borrow.Author.Needs.{needs}
 use Rattle.trial.proofs.inner.put_distances.Statement.{statement}
 use Rattle.trial.proofs.inner.put_distances.Tie as tie
-use Rattle.trial.proofs.inner.distance.Reads as distance-reads
 
 abbrev Inv-loop : tie.InvT-loop
 Inv-loop answer₀ room i₀ answer i = Unit

@@ -2,7 +2,6 @@ use Prim.Native.Nat.{_-_}
 use borrow.Author.Needs.{needs}
 use Rattle.trial.proofs.inner.put_steps.Statement.{statement}
 use Rattle.trial.proofs.inner.put_steps.Tie as tie
-use Rattle.trial.proofs.inner.step.Reads as step-reads
 
 abbrev Inv-loop : tie.InvT-loop
 Inv-loop answer₀ room i₀ answer i = Unit

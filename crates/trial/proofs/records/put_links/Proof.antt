@@ -2,7 +2,6 @@ use Prim.Native.Nat.{_-_}
 use borrow.Author.Needs.{needs}
 use Rattle.trial.proofs.records.put_links.Statement.{statement}
 use Rattle.trial.proofs.records.put_links.Tie as tie
-use Rattle.trial.proofs.records.put_two.Reads as put-two-reads
 
 abbrev Inv-loop : tie.InvT-loop
 Inv-loop bytes₀ town i₀ bytes i = Unit

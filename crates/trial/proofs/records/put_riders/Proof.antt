@@ -2,7 +2,6 @@ use Prim.Native.Nat.{_-_}
 use borrow.Author.Needs.{needs}
 use Rattle.trial.proofs.records.put_riders.Statement.{statement}
 use Rattle.trial.proofs.records.put_riders.Tie as tie
-use Rattle.trial.proofs.records.low.Reads as low-reads
 
 abbrev Inv-loop : tie.InvT-loop
 Inv-loop bytes₀ town j₀ bytes j = Unit
