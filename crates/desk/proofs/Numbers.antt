@@ -1,14 +1,13 @@
 -- What each answer's number is made of is small enough for 64 bits, and a value's number is below 2^63.
-use Prim.Native.Nat.{ℕ, zero, suc, _+_, _*_, _^_, _≤_, _<_}
+use Prim.Native.Nat.{ℕ, _≤_}
 use native.Mathlib.Omega.{arith}
-use native.Mathlib.Nat.{mul-le-mul}
-use mathlib.Core.Path.{_≡_, refl, sym, _∙_, ap}
+use mathlib.Core.Path.{_≡_, sym, _∙_, ap}
 use mathlib.Core.List.{List}
 use lib.ListN.{length}
-use Rattle.rules.specs.Checks.{refuse, firstOf}
+use Rattle.rules.specs.Checks.{refuse}
 use Rattle.rules.specs.Network.{nodeCount, networkVerdict, networkOf, SoundNetwork}
 use Rattle.rules.specs.Request.{recordChecks, requestVerdict, requestOf, requestValue, SoundValue}
-use Rattle.rules.specs.Answers.{Walked, Pricing, refused, stranded, priced, PricedRoute, Lent, Searching, hopeless, planned, Searched}
+use Rattle.rules.specs.Answers.{Walked, refused, stranded, priced, PricedRoute, Lent, hopeless, planned, Searched}
 use Rattle.rules.specs.declared.Refusal.{Refusal}
 use Rattle.rules.specs.declared.NetworkRead.{NetworkRead}
 use Rattle.rules.specs.declared.RequestRead.{RequestRead}
@@ -18,12 +17,11 @@ use Rattle.rules.specs.declared.Priced.{Priced}
 use Rattle.rules.specs.declared.Priced.the-variants.{Price as Costs, Refused as NotPriced}
 use Rattle.rules.specs.declared.Planned.{Planned}
 use Rattle.rules.specs.declared.Planned.the-variants.{Plan as Found, Refused as NotPlanned}
-use Rattle.rules.proofs.Order.{accepted-head, accepted-front, accepted-rest}
+use Rattle.rules.proofs.Order.{accepted-front}
 use Rattle.rules.proofs.SoundNetworkLaws.{network-sound}
 use Rattle.rules.proofs.SoundRequestLaws.{records-sound, value-sound}
 use Rattle.finish.proofs.Bounds.{right-plan-bounded}
 use Rattle.desk.specs.Numbers.{refusalNumber, verdictNumber}
-use Rattle.desk.proofs.Prices.{mostPrice, price-bounded}
 use Rattle.desk.proofs.Places.{Small, same-small, network-near, records-near, walk-near, price-near, search-near}
 
 -- ---- a verdict's number
@@ -78,23 +76,6 @@ price-refusal {network} {request} {route} {before} so r told = elim (so .pricing
       same-small {x = refuse 37 j} (record { place = omega arith; number = omega arith }) (ap verdictPriced (sym e ∙ told))
       )
   | priced p v c z e ↦ never (ap verdictPriced (sym e ∙ told))
-]
-
-pricePriced : Priced → ℕ
-pricePriced (Costs price) = price
-pricePriced (NotPriced r) = 0
-
-pub price-small : {network request route before after : List ℕ} {answer : Priced} {price : ℕ} → PricedRoute network request route before after answer → answer ≡ Costs price → price ≤ mostPrice
-unfolding pricePriced requestVerdict
-price-small {network} {request} {price = price} so told = elim (so .pricing) [
-  | refused x v e m ↦ (let same : 0 ≡ price = ap pricePriced (sym e ∙ told) in omega arith)
-  | stranded j v h s l e m ↦ (let same : 0 ≡ price = ap pricePriced (sym e ∙ told) in omega arith)
-  | priced p v c z e ↦ (
-      let same : p ≡ price = ap pricePriced (sym e ∙ told) in
-      let (sound, value) = both-sound network request (accepted-front (recordChecks network request) _ v) in
-      let passes = accepted-head _ _ (accepted-rest (recordChecks network request) _ v) .1 in
-      omega (arith, price-bounded sound value passes c)
-      )
 ]
 
 -- ---- the search

@@ -1,5 +1,5 @@
 -- Each entry's promise leaves one result, and its number says whether it is a value or a refusal, and which.
-use Prim.Native.Nat.{ℕ, _+_, _-_, _*_, _/_, _%_, _^_, _≤_, _<_}
+use Prim.Native.Nat.{ℕ, _-_, _/_, _%_, _^_, _≤_, _<_}
 use native.Mathlib.Omega.{arith}
 use mathlib.Core.Path.{_≡_, refl, sym, _∙_, ap}
 use mathlib.Core.List.{List}
@@ -13,9 +13,10 @@ use Rattle.rules.specs.declared.Priced.the-variants.{Price as Costs, Refused as
 use Rattle.rules.specs.declared.Planned.the-variants.{Plan as Found, Refused as NotPlanned}
 use Rattle.rules.proofs.AnswerLaws.{walked-unique, priced-route-unique, searched-unique}
 use Rattle.records.proofs.RequestLaws.{few-riders}
+use Rattle.price.proofs.Bounds.{pricing-bounded}
 use Rattle.desk.specs.Numbers.{refusalNumber, verdictNumber, networkNumber, requestNumber, pricedNumber, plannedNumber, WalkTold, PriceTold, PlanTold}
 use Rattle.desk.proofs.Places.{Small}
-use Rattle.desk.proofs.Numbers.{accepted-tells, refused-tells, network-refusal, network-sizes, request-refusal, walk-refusal, price-refusal, price-small, plan-refusal, plan-small}
+use Rattle.desk.proofs.Numbers.{accepted-tells, refused-tells, network-refusal, network-sizes, request-refusal, walk-refusal, price-refusal, plan-refusal, plan-small}
 
 -- ---- any two results agree
 pub network-settled : (s : List ℕ) {x y : ℕ} → x ≡ networkNumber (networkOf s) → y ≡ networkNumber (networkOf s) → x ≡ y
@@ -55,9 +56,9 @@ pub walk-value : {network : List ℕ} {start : ℕ} {before after : List ℕ} {n
 walk-value so told = so .tells ∙ sym (accepted-tells 0 told)
 
 pub price-value : {network request route before after : List ℕ} {number price : ℕ} (so : PriceTold network request route before after number) → so .answer ≡ Costs price → (number ≡ price) × (number < 2 ^ 63)
-price-value so told =
+price-value {network} {request} {route} so told =
     let same = so .tells ∙ ap pricedNumber told in
-    (same, omega (arith, same, price-small (so .priced) told))
+    (same, omega (arith, same, pricing-bounded network request route _ (so .priced .pricing) told))
 
 pub plan-value : {network : List ℕ} (request : List ℕ) {before after : Lent} {number cost steps : ℕ} (so : PlanTold network request before after number) → so .answer ≡ Found cost steps → (number / 4096 ≡ cost) × (number % 4096 ≡ steps) × (number < 2 ^ 63)
 plan-value request so told =

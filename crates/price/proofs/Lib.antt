@@ -3,3 +3,4 @@ pub mod RouteLaws
 pub mod NearLaws
 pub mod MeetLaws
 pub mod EntryLaws
+pub mod Bounds

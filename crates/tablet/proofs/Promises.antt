@@ -1,0 +1,36 @@
+-- The tablet's number tells the price from a refusal, and which: a price is below 2^63, and a refusal is not.
+use Prim.Native.Nat.{ℕ, _+_, _^_, _≤_, _<_}
+use native.Mathlib.Omega.{arith}
+use mathlib.Core.Path.{_≡_, refl, _∙_, ap}
+use mathlib.Core.Logic.{_↔_}
+use mathlib.Core.List.{List}
+use Rattle.rules.specs.Answers.{Tablet, tabletNumber, routeOf}
+use Rattle.rules.specs.declared.Refusal.{Refusal}
+use Rattle.rules.specs.declared.Priced.{Priced}
+use Rattle.rules.specs.declared.Priced.the-variants.{Price as Costs, Refused as NotPriced}
+use Rattle.price.proofs.Bounds.{pricing-bounded}
+
+module _ {network request bytes : List ℕ} {number : ℕ} (so : Tablet network request bytes number) where
+  priced-below : {price : ℕ} → so .answer ≡ Costs price → number < 2 ^ 63
+  priced-below told =
+      let same = so .tells ∙ ap tabletNumber told in
+      omega (arith, same, pricing-bounded network request (routeOf bytes) _ (so .pricing) told)
+
+  refused-above : {r : Refusal} → so .answer ≡ NotPriced r → number ≡ 2 ^ 63 + r .number
+  refused-above told = so .tells ∙ ap tabletNumber told
+
+  -- A result below 2^63 is the price.
+  pub tablet-value : (number < 2 ^ 63) ↔ (so .answer ≡ Costs number)
+  tablet-value = (λ below. go (so .answer) refl below, priced-below)
+    where
+      go : (answer : Priced) → so .answer ≡ answer → number < 2 ^ 63 → so .answer ≡ Costs number
+      go (Costs price) told below = rw (so .tells ∙ ap tabletNumber told) told
+      go (NotPriced r) told below = absurd (omega (arith, refused-above told))
+
+  -- A result of 2^63 or more is 2^63 plus the refusal's number.
+  pub tablet-refused : (2 ^ 63 ≤ number) ↔ ((r : Refusal) × (so .answer ≡ NotPriced r) × (number ≡ 2 ^ 63 + r .number))
+  tablet-refused = (λ above. go (so .answer) refl above, λ (r, told, same). omega arith)
+    where
+      go : (answer : Priced) → so .answer ≡ answer → 2 ^ 63 ≤ number → (r : Refusal) × (so .answer ≡ NotPriced r) × (number ≡ 2 ^ 63 + r .number)
+      go (Costs price) told above = absurd (omega (arith, priced-below told))
+      go (NotPriced r) told above = (r, told, refused-above told)
