@@ -18,11 +18,12 @@ use Rattle.rules.specs.declared.Priced.the-variants.{Price as Costs, Refused as
 use Rattle.rules.specs.declared.Planned.{Planned}
 use Rattle.rules.specs.declared.Planned.the-variants.{Plan as Found, Refused as NotPlanned}
 use Rattle.rules.proofs.Order.{accepted-front}
+use Rattle.rules.proofs.Refusals.{same-refusal, Small, network-small, records-small, search-small}
 use Rattle.rules.proofs.SoundNetworkLaws.{network-sound}
 use Rattle.rules.proofs.SoundRequestLaws.{records-sound, value-sound}
 use Rattle.finish.proofs.Bounds.{right-plan-bounded}
 use Rattle.desk.specs.Numbers.{refusalNumber, verdictNumber}
-use Rattle.desk.proofs.Places.{Small, same-small, network-near, records-near, walk-near, price-near, search-near}
+use Rattle.desk.proofs.Places.{walk-small, price-small}
 
 -- ---- a verdict's number
 pub accepted-tells : {verdict : Verdict} (value : ℕ) → verdict ≡ Accepted → value ≡ verdictNumber verdict value
@@ -31,14 +32,14 @@ accepted-tells value told = rw told
 pub refused-tells : {verdict : Verdict} (value : ℕ) {r : Refusal} → verdict ≡ NotAccepted r → refusalNumber r ≡ verdictNumber verdict value
 refused-tells value told = rw told
 
-never : {r : Refusal} → Accepted ≡ NotAccepted r → Small r
+never : {r : Refusal} → Accepted ≡ NotAccepted r → Small 65536 r
 never e = let z : _≡_ {A = ℕ} 0 1 = cc in absurd (omega arith)
 
 -- ---- reading
 module _ (s : List ℕ) {read : NetworkRead} (is : read ≡ networkOf s) where
-  pub network-refusal : (r : Refusal) → read .verdict ≡ NotAccepted r → Small r
+  pub network-refusal : (r : Refusal) → read .verdict ≡ NotAccepted r → Small 65536 r
   unfolding networkOf networkVerdict
-  network-refusal r told = network-near s .small r (rw is at told)
+  network-refusal r told = network-small 65536 (omega arith) s .given r (rw is at told)
 
   pub network-sizes : read .verdict ≡ Accepted → (read .n ≤ 512) × (read .m ≤ 2048)
   unfolding networkOf
@@ -48,14 +49,14 @@ module _ (s : List ℕ) {read : NetworkRead} (is : read ≡ networkOf s) where
       rw (is, accepted) (sound .nodes, sound .links)
 
 module _ (network s : List ℕ) {read : RequestRead} (is : read ≡ requestOf network s) where
-  pub request-refusal : (r : Refusal) → read .verdict ≡ NotAccepted r → Small r
+  pub request-refusal : (r : Refusal) → read .verdict ≡ NotAccepted r → Small 65536 r
   unfolding requestOf requestVerdict
-  request-refusal r told = records-near network s .small r (rw is at told)
+  request-refusal r told = records-small 65536 (omega arith) network s .given r (rw is at told)
 
 -- ---- walking
-pub walk-refusal : {network : List ℕ} {start : ℕ} {before after : List ℕ} {answer : Verdict} → Walked network start before after answer → (r : Refusal) → answer ≡ NotAccepted r → Small r
+pub walk-refusal : {network : List ℕ} {start : ℕ} {before after : List ℕ} {answer : Verdict} → Walked network start before after answer → (r : Refusal) → answer ≡ NotAccepted r → Small 65536 r
 walk-refusal {network} {start} {before} walked r told =
-    walk-near network start (length before) .small r (sym (walked .answers) ∙ told)
+    walk-small network start (length before) .given r (sym (walked .answers) ∙ told)
 
 -- ---- both records, once the checks of an entry are all passed
 module _ (network request : List ℕ) where
@@ -67,13 +68,13 @@ verdictPriced : Priced → Verdict
 verdictPriced (Costs price) = Accepted
 verdictPriced (NotPriced r) = NotAccepted r
 
-pub price-refusal : {network request route before after : List ℕ} {answer : Priced} → PricedRoute network request route before after answer → (r : Refusal) → answer ≡ NotPriced r → Small r
+pub price-refusal : {network request route before after : List ℕ} {answer : Priced} → PricedRoute network request route before after answer → (r : Refusal) → answer ≡ NotPriced r → Small 65536 r
 unfolding verdictPriced requestVerdict
 price-refusal {network} {request} {route} {before} so r told = elim (so .pricing) [
-  | refused x v e m ↦ same-small (price-near network request route (length before) .small x v) (ap verdictPriced (sym e ∙ told))
+  | refused x v e m ↦ same-refusal (Small 65536) (price-small network request route (length before) .given x v) (ap verdictPriced (sym e ∙ told))
   | stranded j v h s l e m ↦ (
       let riders = both-sound network request (accepted-front (recordChecks network request) _ v) .1 .riders in
-      same-small {x = refuse 37 j} (record { place = omega arith; number = omega arith }) (ap verdictPriced (sym e ∙ told))
+      same-refusal (Small 65536) {x = refuse 37 j} (record { number = omega arith; place = omega arith }) (ap verdictPriced (sym e ∙ told))
       )
   | priced p v c z e ↦ never (ap verdictPriced (sym e ∙ told))
 ]
@@ -92,11 +93,11 @@ stepsPlanned (Found cost steps) = steps
 stepsPlanned (NotPlanned r) = 0
 
 module _ {network : List ℕ} (request : List ℕ) {before after : Lent} {answer : Planned} (so : Searched network request before after answer) where
-  pub plan-refusal : (r : Refusal) → answer ≡ NotPlanned r → Small r
+  pub plan-refusal : (r : Refusal) → answer ≡ NotPlanned r → Small 65536 r
   unfolding verdictPlanned
   plan-refusal r told = elim so [
-    | refused x v e m ↦ same-small (search-near network request _ _ _ .small x v) (ap verdictPlanned (sym e ∙ told))
-    | hopeless v d t n e s ↦ same-small {x = refuse 24 0} (record { place = omega arith; number = omega arith }) (ap verdictPlanned (sym e ∙ told))
+    | refused x v e m ↦ same-refusal (Small 65536) (search-small 65536 (omega arith) network request _ _ _ .given x v) (ap verdictPlanned (sym e ∙ told))
+    | hopeless v d t n e s ↦ same-refusal (Small 65536) {x = refuse 24 0} (record { number = omega arith; place = omega arith }) (ap verdictPlanned (sym e ∙ told))
     | planned plan cost v d t right e w ↦ never (ap verdictPlanned (sym e ∙ told))
   ]
 

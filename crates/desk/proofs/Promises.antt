@@ -12,10 +12,10 @@ use Rattle.rules.specs.declared.Verdict.the-variants.{Accepted, Refused as NotA
 use Rattle.rules.specs.declared.Priced.the-variants.{Price as Costs, Refused as NotPriced}
 use Rattle.rules.specs.declared.Planned.the-variants.{Plan as Found, Refused as NotPlanned}
 use Rattle.rules.proofs.AnswerLaws.{walked-unique, priced-route-unique, searched-unique}
+use Rattle.rules.proofs.Refusals.{Small}
 use Rattle.records.proofs.RequestLaws.{few-riders}
 use Rattle.price.proofs.Bounds.{pricing-bounded}
 use Rattle.desk.specs.Numbers.{refusalNumber, verdictNumber, networkNumber, requestNumber, pricedNumber, plannedNumber, WalkTold, PriceTold, PlanTold}
-use Rattle.desk.proofs.Places.{Small}
 use Rattle.desk.proofs.Numbers.{accepted-tells, refused-tells, network-refusal, network-sizes, request-refusal, walk-refusal, price-refusal, plan-refusal, plan-small}
 
 -- ---- any two results agree
@@ -75,7 +75,7 @@ pub record Reads (number : ℕ) (r : Refusal) : Type 0 where
   pub place : (number - 2 ^ 63) / 65536 ≡ r .place
   pub kind : number % 65536 ≡ r .number
 
-reads : {r : Refusal} {number : ℕ} → Small r → number ≡ refusalNumber r → Reads number r
+reads : {r : Refusal} {number : ℕ} → Small 65536 r → number ≡ refusalNumber r → Reads number r
 reads small told =
     record {
       high = omega arith;

@@ -1,9 +1,10 @@
--- Laws of the definitions: how checks run in their order, what acceptance gives, and that any two results that satisfy a promise agree.
+-- Laws of the definitions: how checks run in their order, what acceptance gives, how large refusals are, and that any two results that satisfy a promise agree.
 pub mod Order
 pub mod TestLaws
 pub mod OpeningLaws
 pub mod SoundNetworkLaws
 pub mod SoundRequestLaws
+pub mod Refusals
 pub mod LinkLaws
 pub mod WalkLaws
 pub mod PriceLaws

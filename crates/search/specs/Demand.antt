@@ -1,0 +1,46 @@
+-- Demand 3, as one statement on an answer of the search and on what it leaves in the rooms.
+use Prim.Native.Nat.{ℕ, _≤_}
+use mathlib.Core.Path.{_≡_}
+use mathlib.Core.Logic.{_⊎_, _↔_}
+use mathlib.Core.List.{List}
+use lib.ListN.{length}
+use Rattle.rules.specs.Checks.{refuse}
+use Rattle.rules.specs.Network.{SoundNetwork, nodeCount}
+use Rattle.rules.specs.Request.{SoundRequest, requestValue}
+use Rattle.rules.specs.Routes.{Price}
+use Rattle.rules.specs.Plans.{RightPlan}
+use Rattle.rules.specs.Rooms.{Written, distancePlaces, tablePlaces, stepPlaces}
+use Rattle.rules.specs.Answers.{Lent}
+use Rattle.rules.specs.declared.Request.{Request}
+use Rattle.rules.specs.declared.Planned.{Planned}
+use Rattle.rules.specs.declared.Planned.the-variants.{Plan as Found, Refused as NotPlanned}
+use Rattle.right.specs.Steps.{drivesOf, positionsOf, NoDrive}
+
+-- "Given sound records and the room that document 01 and later requests ask for"
+pub record Given (network request : List ℕ) (before : Lent) : Type 0 where
+  pub network-sound : SoundNetwork network
+  pub request-sound : SoundRequest (nodeCount network) request
+  pub distances : distancePlaces (nodeCount network) (requestValue request .count) ≤ length (before .distances)
+  pub table : tablePlaces (nodeCount network) (requestValue request .count) ≤ length (before .table)
+  pub steps : stepPlaces (nodeCount network) (requestValue request .count) ≤ length (before .steps)
+
+-- The plan that an answer stands for.
+pub record Answered (network : List ℕ) (q : Request) (before after : Lent) (cost count : ℕ) : Type 0 where
+  -- its steps stand at the start of their room, and the answer counts them
+  pub steps : List ℕ
+  pub counts : count ≡ length steps
+  pub written : Written steps (before .steps) (after .steps)
+  -- "the plan's stated cost is the price of its route", and the riders are met at their meeting positions
+  pub priced : Price network q (drivesOf steps) (positionsOf q steps) cost
+  -- "and no drive from source to target, however long or often it repeats a street, is cheaper"
+  pub cheapest : (route meetings : List ℕ) (price : ℕ) → Price network q route meetings price → cost ≤ price
+  -- "Ties go by document 01's order, so there is one right plan."
+  pub right : RightPlan network q steps cost
+  pub only : (others : List ℕ) (c : ℕ) → RightPlan network q others c → (others ≡ steps) × (c ≡ cost)
+
+pub record Demand3 (network request : List ℕ) (before after : Lent) (answer : Planned) : Type 0 where
+  -- what is given is answered by a plan or by 24
+  pub answers : Given network request before → ((cost count : ℕ) × (answer ≡ Found cost count)) ⊎ (answer ≡ NotPlanned (refuse 24 0))
+  pub plan : (cost count : ℕ) → answer ≡ Found cost count → Answered network (requestValue request) before after cost count
+  -- ""No route" (24) is answered exactly when no such drive passes corners that all the riders can walk to."
+  pub none : (answer ≡ NotPlanned (refuse 24 0)) ↔ (Given network request before × NoDrive network (requestValue request))
