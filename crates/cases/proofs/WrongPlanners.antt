@@ -15,7 +15,7 @@ use Rattle.rules.specs.declared.Planned.the-variants.{Plan as Found, Refused as
 use Rattle.rules.proofs.PlanLaws.{right-plan-unique}
 use Rattle.right.specs.Steps.{drivesOf}
 use Rattle.cases.specs.Cases.{plan, none, asked}
-use Rattle.cases.specs.Searches.{Roomy, zeros, SearchedCase, Fails, Planner, Keeps, NoNodeTwice, EndsAtTarget}
+use Rattle.cases.specs.Searches.{Roomy, zeros, SearchedCase, Fails, Planner, resultAt, Answers, Keeps, NoNodeTwice, EndsAtTarget}
 use Rattle.cases.specs.TownRows.{rowA, rowB, rowC, rowF, rowJ}
 use Rattle.cases.specs.OwnRows.{beyondTarget, twoLinks, nearTwice, oneForTwo, offTheRoad, wideCosts, closedWalk, wallOpened}
 use Rattle.cases.proofs.Certificate.{pricedAt}
@@ -23,39 +23,34 @@ use Rattle.cases.proofs.CaseLaws.{case-priced}
 use Rattle.cases.proofs.SearchLaws.{zeros-roomy, searched-case, sameOutcome, fails}
 use Rattle.cases.proofs.Tables.{town-holds, own-holds}
 
--- ---- the planners that document 01 has the promises tried on
+-- ---- the planners that document 01 has the promises tried on, whatever they answer at other inputs
 module _ (p : Planner) where
   -- One that refuses everything, at case A.
-  pub refuses-everything : ((network request : List ℕ) (before : Lent) → (r : Refusal) × (p network request before .answer ≡ NotPlanned r)) → (before : Lent) → Roomy rowA before → Keeps p rowA before → ⊥
-  refuses-everything refuses before roomy keeps =
-      let (r, e) = refuses (rowA .network) (rowA .request) before in
+  pub refuses-everything : (r : Refusal) (before : Lent) → Roomy rowA before → Answers p rowA before (NotPlanned r) → Keeps p rowA before → ⊥
+  refuses-everything r before roomy e keeps =
       let right = searched-case (town-holds 0) roomy keeps .1 in
       let z : _≡_ {A = ℕ} 0 1 = cc in
       omega arith
 
-  -- One with a fixed plan, at case A or at case B,
-  pub fixed-plan : (cost count : ℕ) → ((network request : List ℕ) (before : Lent) → p network request before .answer ≡ Found cost count) → (a b : Lent) → Roomy rowA a → Roomy rowB b → Keeps p rowA a → Keeps p rowB b → ⊥
-  fixed-plan cost count fixed a b roomy wide keeps kept =
-      let e = fixed (rowA .network) (rowA .request) a in
-      let f = fixed (rowB .network) (rowB .request) b in
+  -- One that gives sound records a fixed plan, at case A or at case B,
+  pub fixed-plan : (cost count : ℕ) (a b : Lent) → Roomy rowA a → Roomy rowB b → Answers p rowA a (Found cost count) → Answers p rowB b (Found cost count) → Keeps p rowA a → Keeps p rowB b → ⊥
+  fixed-plan cost count a b roomy wide e f keeps kept =
       let right = searched-case (town-holds 0) roomy keeps .1 in
       let other = searched-case (town-holds 1) wide kept .1 in
       let z : _≡_ {A = ℕ} 8 11 = cc in
       omega arith
 
   -- and whichever plan it is, at case F.
-  pub fixed-plan-at-F : (cost count : ℕ) → ((network request : List ℕ) (before : Lent) → p network request before .answer ≡ Found cost count) → (before : Lent) → Roomy rowF before → Keeps p rowF before → ⊥
-  fixed-plan-at-F cost count fixed before roomy keeps =
-      let e = fixed (rowF .network) (rowF .request) before in
+  pub fixed-plan-at-F : (cost count : ℕ) (before : Lent) → Roomy rowF before → Answers p rowF before (Found cost count) → Keeps p rowF before → ⊥
+  fixed-plan-at-F cost count before roomy e keeps =
       let right = searched-case (town-holds 5) roomy keeps .1 in
       let z : _≡_ {A = ℕ} 0 1 = cc in
       omega arith
 
   -- One that writes nothing, at case A: place 5 of the table stays 0.
-  pub writes-nothing : ((network request : List ℕ) (before : Lent) → p network request before .after ≡ before) → Keeps p rowA (zeros rowA) → ⊥
+  pub writes-nothing : resultAt p rowA (zeros rowA) .after ≡ zeros rowA → Keeps p rowA (zeros rowA) → ⊥
   unfolding number requestValue
-  writes-nothing writes keeps =
-      let kept = writes (rowA .network) (rowA .request) (zeros rowA) in
+  writes-nothing kept keeps =
       let right = searched-case (town-holds 0) (zeros-roomy rowA) keeps .0 in
       let z : _≡_ {A = ℕ} 0 32771 = ap (λ (l : Lent). getD (l .table) 5 0) (sym kept ∙ right) in
       omega arith

@@ -75,9 +75,15 @@ pub record Result : Type 0 where
 abbrev pub Planner : Type 0
 Planner = List ℕ → List ℕ → Lent → Result
 
+abbrev pub resultAt : Planner → Case → Lent → Result
+resultAt p c before = p (c .network) (c .request) before
+
+abbrev pub Answers : Planner → Case → Lent → Planned → Type 0
+Answers p c before answer = resultAt p c before .answer ≡ answer
+
 -- The planner keeps the search's promise at the case.
 abbrev pub Keeps : Planner → Case → Lent → Type 0
-Keeps p c before = SearchedCase c before (p (c .network) (c .request) before .after) (p (c .network) (c .request) before .answer)
+Keeps p c before = SearchedCase c before (resultAt p c before .after) (resultAt p c before .answer)
 
 -- the table's place of all riders and the source
 abbrev pub planPlace : List ℕ → List ℕ → ℕ
