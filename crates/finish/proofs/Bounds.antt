@@ -1,6 +1,6 @@
 -- How large the numbers of a best finish are, and what the place of the table says of it.
 use Prim.Native.Nat.{ℕ, _+_, _-_, _*_, _^_, _≤_, _<_}
-use mathlib.Core.Path.{_≡_, refl}
+use mathlib.Core.Path.{_≡_}
 use mathlib.Core.Logic.{inl, inr}
 use mathlib.Core.List.{List}
 use native.Mathlib.Nat.{mul-le-mul}
@@ -15,7 +15,6 @@ use Rattle.rules.specs.Walks.{WalkingDistance}
 use Rattle.rules.specs.Plans.{Finish, arrive, meet, drive, Best, RightPlan}
 use Rattle.rules.specs.Rooms.{HoldsFinish, noFinish, stepPlaces}
 use Rattle.rules.specs.declared.Request.{Request}
-use Rattle.rules.proofs.PlanLaws.{holds-finish-unique}
 use Rattle.least.specs.Least.{Least}
 use Rattle.least.specs.Walking.{WalkTrip}
 use Rattle.least.proofs.Walking.{ends-below, inside, walk-trip, trip-walk}
@@ -108,10 +107,6 @@ module _ {network : List ℕ} (sound : SoundNetwork network) where
             met = λ g. rw (f .packs) (packed (f .best .finishes));
           }
       holds-least (inr f) = rw (f .1) (least-none (λ x p. f .0 _ _ (p .finishes)))
-
-      -- A least packed sum is what every best finish packs to.
-      pub best-packs : {steps : List ℕ} {cost place : ℕ} → Least noFinish (Packed network q R v) place → Best network q R v steps cost → place ≡ 4096 * cost + length steps
-      best-packs {steps} {cost} l best = holds-finish-unique (least-holds l) (inl (record { steps = steps; cost = cost; best = best; packs = refl }))
 
     -- "No right plan has more than l + (l+1)(n-1) steps, at most 4,095. No right plan costs more than 50,231,811,000".
     pub right-plan-bounded : {steps : List ℕ} {cost : ℕ} → RightPlan network q steps cost → Bounded (nodeCount network) (q .count) steps cost

@@ -90,7 +90,3 @@ module _ (s : List ℕ) {r : NetworkRead} (is : r ≡ networkOf s) where
     pub read-n : r .n ≡ nodeCount s
     unfolding networkOf
     read-n = rw (is, read-accepted)
-
-    pub read-m : r .m ≡ linkCount s
-    unfolding networkOf
-    read-m = rw (is, read-accepted)

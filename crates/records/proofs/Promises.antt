@@ -25,11 +25,7 @@ request-settled network s a b p q = p ∙ sym q
 pub link-settled : (network : RefT (List ℕ)) (k : ℕ) (a b : RefT (List ℕ)) → LinkPart network k a → LinkPart network k b → (a .ptr ≡ b .ptr) × (a .now ≡ b .now)
 link-settled network k a b p q = part-unique p q
 
--- ---- the small town is read
-pub town-read : networkOf town ≡ record { verdict = Accepted; n = 5; m = 8 }
-unfolding networkOf networkVerdict networkChecks openingChecks sizeChecks number firstOf each
-town-read = refl
-
+-- ---- case A is read
 pub request-read : requestOf town caseA ≡ record { verdict = Accepted; request = record { source = 0; target = 3; weight = 1; count = 1; nodes = 4 ∷ 0 ∷ 0 ∷ 0 ∷ 0 ∷ 0 ∷ 0 ∷ []; weights = 1 ∷ 0 ∷ 0 ∷ 0 ∷ 0 ∷ 0 ∷ 0 ∷ [] } }
 unfolding networkChecks openingChecks sizeChecks number firstOf each requestOf requestVerdict requestChecks countChecks nodeChecks weightChecks requestValue sevenPlaces
 request-read = refl

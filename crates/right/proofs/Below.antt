@@ -1,9 +1,8 @@
 -- What holds for each number below a count.
-use Prim.Native.Nat.{ℕ, zero, suc, _<_, _≤_}
+use Prim.Native.Nat.{ℕ, zero, suc, _<_}
 use mathlib.Core.Path.{_≡_}
 use native.Mathlib.Decide.{decLt}
 use native.Mathlib.Omega.{arith}
-use Rattle.rules.specs.Routes.{sum}
 
 -- A function gives each number below the count a value that it is known to have.
 module _ (count : ℕ) {A : Type 0} (other : A) {P : ℕ → A → Type 0} (each : (j : ℕ) → j < count → (a : A) × P j a) where
@@ -25,8 +24,3 @@ not-missing zero P some missing = missing (λ j h. absurd (omega arith))
 not-missing (suc count) P some missing =
     not-missing count P (λ j h. some j (omega arith))
     (λ all. some count (omega arith) (λ p. missing (λ j h. elim (decLt j count) [ yes g ↦ all j g | no g ↦ (let e : count ≡ j = omega arith in rw e at p) ])))
-
-pub sum-least : (count : ℕ) (f g : ℕ → ℕ) → ((j : ℕ) → j < count → f j ≤ g j) → sum count f ≤ sum count g
-unfolding sum
-sum-least zero f g least = omega arith
-sum-least (suc count) f g least = omega (arith, sum-least count f g (λ j h. least j (omega arith)), least count (omega arith))

@@ -4,7 +4,7 @@ use mathlib.Core.Path.{_≡_, refl, sym, ap, ap₂, subst, _∙_}
 use mathlib.Core.Logic.{_↔_}
 use mathlib.Core.List.{List, [], _∷_, map}
 use lib.ListN.{length, getD, length-map}
-use native.Mathlib.Nat.{add-zero, mul-add, mul-zero, mul-le-mul-left}
+use native.Mathlib.Nat.{add-zero, mul-add, mul-zero}
 use native.Mathlib.Decide.{ℕ-discrete, decLt}
 use native.Mathlib.Omega.{arith}
 use Rattle.rules.specs.Request.{riderWeightOf}
@@ -12,10 +12,9 @@ use Rattle.rules.specs.Walks.{Way, arrived, along, Walk, WalkingDistance}
 use Rattle.rules.specs.Routes.{Drivable, Route, RiderWalks, nodeAt, sum, Price}
 use Rattle.rules.specs.Plans.{driveStep, Finish, arrive, drive, Plan, RightPlan, NoPlan}
 use Rattle.rules.specs.declared.Request.{Request}
-use Rattle.rules.proofs.WalkLaws.{way-sum}
 use Rattle.finish.proofs.Sets.{all-have}
 use Rattle.right.specs.Steps.{drivesOf, metAt, SumAt, Along, NoDrive}
-use Rattle.right.proofs.Below.{chosen, not-missing, sum-least}
+use Rattle.right.proofs.Below.{chosen, not-missing}
 use Rattle.right.proofs.Sets.{first-without, first-small}
 use Rattle.right.proofs.Steps.{drives-drive}
 use Rattle.right.proofs.Adding.{added-length, added-drives, added-at, added-other, Put, put}
@@ -71,12 +70,6 @@ module _ {network : List ℕ} {q : Request} where
       let p = put {d = walking l} (first-small (suc l) small) (all-have (suc l) l .1 (omega arith)) (sym (first-without l)) (t .finishes) (position l) (rw (t .drives) (within l (omega arith))) (rw (t .drives) (walks l (omega arith))) in
       subst (Along network q (suc l) route position) (omega arith) (along-more (omega arith) t p)
 
-  -- Taken at any positions the sum is at least the price, since each rider walks at least as far as to the nearest position.
-  pub sum-price : {route meetings : List ℕ} {position : ℕ → ℕ} {cost price : ℕ} → SumAt network q route position cost → Price network q route meetings price → price ≤ cost
-  sum-price {position = position} s p =
-      let less = sum-least (q .count) (λ j. riderWeightOf q j * p .walking j) (λ j. riderWeightOf q j * s .walking j) (λ j h. mul-le-mul-left (riderWeightOf q j) (p .meets j h .least (position j) (s .walking j) (s .within j h) (s .walks j h))) in
-      omega (arith, less, p .adds, s .adds, ap (λ (d : ℕ). q .weight * d) (way-sum (p .drives) (s .drives)))
-
   -- The price is the sum at the meeting positions.
   pub price-sum : {route meetings : List ℕ} {price : ℕ} → Price network q route meetings price → SumAt network q route (λ j. getD meetings j 0) price
   price-sum p = record { driving = p .driving; walking = p .walking; drives = p .drives; within = λ j h. p .meets j h .within; walks = λ j h. p .meets j h .walks; adds = p .adds }
@@ -100,14 +93,6 @@ module _ {network : List ℕ} {q : Request} where
     -- Conversely a route with a position for each rider has a plan at the sum taken there, with one step for each rider and each link.
     pub sum-plan : {route : List ℕ} {position : ℕ → ℕ} {cost : ℕ} → SumAt network q route position cost → Along network q (q .count) route position cost
     sum-plan {position = position} s = rw (s .adds) (along-first position (s .walking) (q .count) riders (s .drives) (s .within) (s .walks))
-
-    -- A plan costs at least the price of its route.
-    pub plan-price : {steps meetings : List ℕ} {cost price : ℕ} → Plan network q steps cost → Price network q (drivesOf steps) meetings price → price ≤ cost
-    plan-price f = sum-price (plan-sum f)
-
-    -- A route that has a price has a plan at that price, which meets each rider at its meeting position.
-    pub price-plan : {route meetings : List ℕ} {price : ℕ} → Price network q route meetings price → Along network q (q .count) route (λ j. getD meetings j 0) price
-    price-plan p = sum-plan (price-sum p)
 
     -- No drive from source to target, however long or often it repeats a street, is cheaper than the right plan, wherever it meets the riders.
     pub right-least : {steps route : List ℕ} {position : ℕ → ℕ} {cost c : ℕ} → RightPlan network q steps cost → SumAt network q route position c → cost ≤ c

@@ -1,9 +1,9 @@
 -- What a list of steps says with one step more in front, and the list of its positions.
 use Prim.Native.Nat.{ℕ, zero, suc, _+_, _-_, _<_, _≤_}
-use mathlib.Core.Path.{_≡_, refl, ap}
+use mathlib.Core.Path.{_≡_}
 use mathlib.Core.Logic.{_≢_}
 use mathlib.Core.List.{List, _∷_}
-use lib.ListN.{length, getD}
+use lib.ListN.{getD}
 use native.Mathlib.Nat.{add-zero}
 use native.Mathlib.Omega.{arith}
 use borrow.Author.Tests.{lt-ltb, le-ltb, eq-eqb, ne-eqb}
@@ -47,11 +47,6 @@ unfolding nodeAt
 node-drive {k = k} {step = step} steps position s link =
     let e : step - 8 ≡ k = omega arith in
     simp (drives-drive {step = step} steps (omega arith), e, link .ends)
-
-pub positions-length : (count first : ℕ) (steps : List ℕ) → length (positionsFrom count first steps) ≡ count
-unfolding positionsFrom
-positions-length zero first steps = refl
-positions-length (suc count) first steps = ap suc (positions-length count (suc first) steps)
 
 pub position-at : (count first j : ℕ) (steps : List ℕ) → j < count → getD (positionsFrom count first steps) j 0 ≡ metAt (first + j) steps
 unfolding positionsFrom

@@ -18,11 +18,6 @@ module _ (s : List ℕ) (start size : ℕ) where
   part-two i h =
       simp (add-zero, part-byte i (omega arith), part-byte (i + 1) h, add-assoc)
 
--- a number of two bytes is below 65,536
-pub two-below : (s : List ℕ) (i : ℕ) → ((j : ℕ) → byte s j < 256) → two s i < 65536
-unfolding number
-two-below s i bytes = omega (arith, bytes (i + 0), bytes (i + 1))
-
 -- where `eight` is the part that the reader hands back for link k
 module _ (s : List ℕ) (k : ℕ) (eight : List ℕ) (is : eight ≡ take 8 (drop (linkStart k) s)) where
   pub link-from : two eight 0 ≡ from s k

@@ -3,7 +3,7 @@ use Prim.Native.Nat.{ℕ, _≤_}
 use mathlib.Core.Path.{_≡_, refl}
 use mathlib.Core.Bool.{Bool, true, false, true≢false, _||_}
 use lib.Dec.{ltb, eqb}
-use borrow.Author.Tests.{ltb-false, le-ltb, eqb-true, eq-eqb, not-false}
+use borrow.Author.Tests.{ltb-false, le-ltb, eqb-true, not-false}
 use Rattle.rules.specs.Checks.{differ, outside}
 
 pub neither : (a b : Bool) → (a || b) ≡ false → (a ≡ false) × (b ≡ false)
@@ -17,9 +17,6 @@ pub within : (low high x : ℕ) → outside low high x ≡ false → (low ≤ x)
 within low high x e =
     let (above, below) = neither (ltb x low) (ltb high x) e in
     (ltb-false x low above, ltb-false high x below)
-
-pub no-difference : (x y : ℕ) → x ≡ y → differ x y ≡ false
-no-difference x y e = rw (eq-eqb x y e)
 
 pub not-outside : (low high x : ℕ) → low ≤ x → x ≤ high → outside low high x ≡ false
 not-outside low high x above below = simp (le-ltb x low above, le-ltb high x below)

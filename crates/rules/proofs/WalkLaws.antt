@@ -11,11 +11,6 @@ pub way-sum : {network : List ℕ} {cost : ℕ → ℕ} {u v x y c d : ℕ} {lin
 way-sum (arrived _ c) (arrived _ d) = cc
 way-sum (along _ _ _ k rest c) (along _ _ _ l other d) = cc (way-sum rest other)
 
--- One list of links leads from a node to one node.
-pub way-end : {network : List ℕ} {cost : ℕ → ℕ} {u v x c d : ℕ} {links : List ℕ} → Way (Leads network cost) v u links c → Way (Leads network cost) x u links d → v ≡ x
-way-end (arrived u _) (arrived v _) = cc
-way-end (along x _ _ k rest _) (along y _ _ l other _) = let e : y ≡ x = cc in way-end rest (rw e at other)
-
 -- There is at most one walking distance from a node to a node.
 pub distance-unique : {network : List ℕ} {u v d e : ℕ} → WalkingDistance network u v d → WalkingDistance network u v e → d ≡ e
 distance-unique a b = omega (arith, a .least _ _ (b .walked), b .least _ _ (a .walked))
