@@ -9,9 +9,11 @@ use Rattle.rules.specs.Numbers.{number}
 use Rattle.rules.specs.Request.{requestValue}
 use Rattle.rules.specs.Routes.{nodeAt, Price}
 use Rattle.rules.specs.Plans.{RightPlan}
-use Rattle.rules.specs.Answers.{Lent}
+use Rattle.rules.specs.Answers.{Lent, PricedRoute, refused, stranded, priced}
 use Rattle.rules.specs.declared.Refusal.{Refusal}
+use Rattle.rules.specs.declared.Priced.the-variants.{Price as Costs}
 use Rattle.rules.specs.declared.Planned.the-variants.{Plan as Found, Refused as NotPlanned}
+use Rattle.rules.proofs.PriceLaws.{price-unique}
 use Rattle.rules.proofs.PlanLaws.{right-plan-unique}
 use Rattle.right.specs.Steps.{drivesOf}
 use Rattle.cases.specs.Cases.{plan, none, asked}
@@ -64,6 +66,19 @@ weighs-rider-0 cost = fails (plan cost (8 ∷ 0 ∷ 1 ∷ 9 ∷ [])) (town-holds
 pub weighs-rider-0-price : Price (rowJ .network) (asked rowJ) (0 ∷ 1 ∷ []) (1 ∷ 1 ∷ []) 12
 unfolding pricedAt
 weighs-rider-0-price = case-priced (town-holds 9) (0 ∷ 1 ∷ []) (1 ∷ 1 ∷ []) refl
+
+-- So pricing that weighs rider 1 as rider 0, for 10, breaks its promise.
+pub one-weight-for-all : {before after : List ℕ} → PricedRoute (rowJ .network) (rowJ .request) (0 ∷ 1 ∷ []) before after (Costs 10) → ⊥
+unfolding number requestValue
+one-weight-for-all so = elim (so .pricing) [
+  | refused r v e m ↦ (let z : _≡_ {A = ℕ} 0 1 = cc in omega arith)
+  | stranded j v h s l e m ↦ (let z : _≡_ {A = ℕ} 0 1 = cc in omega arith)
+  | priced price v costs size e ↦ (
+      let twelve = price-unique size refl costs weighs-rider-0-price .0 in
+      let z : _≡_ {A = ℕ} 10 12 = cc in
+      omega arith
+      )
+]
 
 -- One whose step count is invented, at case A. Of every input `count-told` says what it must be.
 pub invents-the-count : (cost count : ℕ) → count ≢ 3 → (before after : Lent) → Roomy rowA before → SearchedCase rowA before after (Found cost count) → ⊥

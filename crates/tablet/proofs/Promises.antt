@@ -1,14 +1,20 @@
--- The tablet's number tells the price from a refusal, and which: a price is below 2^63, and a refusal is not.
-use Prim.Native.Nat.{ℕ, _+_, _^_, _≤_, _<_}
+-- The tablet's number tells the price from a refusal, and which: a price is below 2^63, and a refusal is not. And a wrong order of refusals.
+use Prim.Native.Nat.{ℕ, _+_, _%_, _^_, _≤_, _<_}
 use native.Mathlib.Omega.{arith}
 use mathlib.Core.Path.{_≡_, refl, _∙_, ap}
-use mathlib.Core.Logic.{_↔_}
+use mathlib.Core.Logic.{_↔_, _≢_}
 use mathlib.Core.List.{List}
+use lib.ListN.{length}
+use Rattle.rules.specs.Checks.{refuse}
+use Rattle.rules.specs.Request.{requestVerdict}
 use Rattle.rules.specs.Answers.{Tablet, tabletNumber, routeOf}
 use Rattle.rules.specs.declared.Refusal.{Refusal}
+use Rattle.rules.specs.declared.Verdict.the-variants.{Accepted}
 use Rattle.rules.specs.declared.Priced.{Priced}
 use Rattle.rules.specs.declared.Priced.the-variants.{Price as Costs, Refused as NotPriced}
+use Rattle.rules.proofs.AnswerLaws.{tablet-unique}
 use Rattle.price.proofs.Bounds.{pricing-bounded}
+use Rattle.tablet.proofs.AnswerLaws.{refused-38}
 
 module _ {network request bytes : List ℕ} {number : ℕ} (so : Tablet network request bytes number) where
   priced-below : {price : ℕ} → so .answer ≡ Costs price → number < 2 ^ 63
@@ -34,3 +40,9 @@ module _ {network request bytes : List ℕ} {number : ℕ} (so : Tablet network 
       go : (answer : Priced) → so .answer ≡ answer → 2 ^ 63 ≤ number → (r : Refusal) × (so .answer ≡ NotPriced r) × (number ≡ 2 ^ 63 + r .number)
       go (Costs price) told above = absurd (omega (arith, priced-below told))
       go (NotPriced r) told above = (r, told, refused-above told)
+
+  -- An odd number of route bytes is 38, and not 32, however many links they are.
+  pub odd-before-long : requestVerdict network request ≡ Accepted → length bytes % 2 ≢ 0 → number ≡ 2 ^ 63 + 38
+  odd-before-long accepted odd =
+      let answered = refused-38 network request bytes accepted odd in
+      tablet-unique so (record { answer = NotPriced (refuse 38 0); meetings = answered .meetings; pricing = answered .pricing; tells = refl })

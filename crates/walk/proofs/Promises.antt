@@ -1,0 +1,18 @@
+-- A wrong answer that the walking entry's promise shuts out, whatever the network: a distance that no walk has.
+use Prim.Native.Nat.{ℕ, _<_}
+use mathlib.Core.Path.{_≡_}
+use mathlib.Core.Logic.{_≢_, inl, inr}
+use mathlib.Core.List.{List}
+use lib.ListN.{getD}
+use Rattle.rules.specs.Network.{nodeCount}
+use Rattle.rules.specs.Walks.{Walk, noDistance}
+use Rattle.rules.specs.Answers.{Walked}
+use Rattle.rules.specs.declared.Verdict.{Verdict}
+use Rattle.rules.specs.declared.Verdict.the-variants.{Accepted}
+
+-- Every distance but none is the sum of a walk.
+pub distance-walked : {network : List ℕ} {start : ℕ} {before after : List ℕ} {answer : Verdict} → Walked network start before after answer → answer ≡ Accepted → (v : ℕ) → v < nodeCount network → getD after v 0 ≢ noDistance → (links : List ℕ) × Walk network start v links (getD after v 0)
+distance-walked {network} {start} {after = after} walked accepted v h some = elim (walked .fills accepted v h) [
+  | inl distance ↦ (distance .links, distance .walked)
+  | inr none ↦ absurd (some (none .1))
+]
