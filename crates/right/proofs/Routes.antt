@@ -94,7 +94,7 @@ module _ {network : List ℕ} {q : Request} where
     pub sum-plan : {route : List ℕ} {position : ℕ → ℕ} {cost : ℕ} → SumAt network q route position cost → Along network q (q .count) route position cost
     sum-plan {position = position} s = rw (s .adds) (along-first position (s .walking) (q .count) riders (s .drives) (s .within) (s .walks))
 
-    -- No drive from source to target, however long or often it repeats a street, is cheaper than the right plan, wherever it meets the riders.
+    -- Whatever route is driven, and wherever it meets the riders, it costs no less than the right plan.
     pub right-least : {steps route : List ℕ} {position : ℕ → ℕ} {cost c : ℕ} → RightPlan network q steps cost → SumAt network q route position c → cost ≤ c
     right-least r s = let a = sum-plan s in r .best .cheapest (a .steps) _ (a .finishes)
 
