@@ -29,10 +29,10 @@ pub fn outcome(i: usize) -> usize {
     let distances = walks::distances(&town);
     let all = all_riders(&town);
     let source = town[SOURCE];
-    let plan = best_finish(&town, distances, all, source);
+    let plan = best_finish(&town, &distances, all, source);
     let mut listed = said(plan);
-    put_distances(&mut listed, &town, distances);
-    put_table(&mut listed, &town, distances);
+    put_distances(&mut listed, &town, &distances);
+    put_table(&mut listed, &town, &distances);
     let lent = Places {
         distances: DISTANCES,
         table: TABLE,
@@ -60,7 +60,11 @@ fn all_riders(town: &[usize; NUMBERS]) -> usize {
         0 => 0,
         1 => 1,
         2 => 3,
-        _ => 7,
+        3 => 7,
+        4 => 15,
+        5 => 31,
+        6 => 63,
+        _ => 127,
     }
 }
 
@@ -89,7 +93,11 @@ fn put_steps(answer: &mut [usize; ANSWER], steps: [usize; STEPS]) {
     }
 }
 
-fn put_distances(answer: &mut [usize; ANSWER], town: &[usize; NUMBERS], distances: [usize; PAIRS]) {
+fn put_distances(
+    answer: &mut [usize; ANSWER],
+    town: &[usize; NUMBERS],
+    distances: &[usize; PAIRS],
+) {
     let n = town[N];
     if n == 0 {
         return;
@@ -111,7 +119,7 @@ fn distance_place(distance: usize) -> usize {
     distance
 }
 
-fn put_table(answer: &mut [usize; ANSWER], town: &[usize; NUMBERS], distances: [usize; PAIRS]) {
+fn put_table(answer: &mut [usize; ANSWER], town: &[usize; NUMBERS], distances: &[usize; PAIRS]) {
     let n = town[N];
     if n == 0 {
         return;

@@ -1,18 +1,17 @@
 // The best finish from a node that meets a set of riders, by listing drives to the target.
+use crate::meetings::in_set;
 use crate::meetings::priced;
 use crate::paths::*;
 use crate::plans;
 use crate::plans::Plan;
 use crate::sums::NONE;
+use crate::sums::plus;
 use crate::walks::PAIRS;
 use trial::inner::*;
 
-// How many riders each set has.
-const ONES: [usize; 8] = [0, 1, 1, 2, 1, 2, 2, 3];
-
 pub fn best_finish(
     town: &[usize; NUMBERS],
-    distances: [usize; PAIRS],
+    distances: &[usize; PAIRS],
     riders: usize,
     start: usize,
 ) -> Plan {
@@ -31,21 +30,28 @@ pub fn best_finish(
     plans::without_steps(0)
 }
 
-// The most links of a right plan: so many as there are other nodes, before each meeting and behind the last.
+// The most links of a right plan: so many as there are other nodes, behind the last meeting and before each.
 fn most_links(town: &[usize; NUMBERS], riders: usize) -> usize {
-    let stretch = other_nodes(town);
-    match ONES[riders % 8] {
-        0 => stretch,
-        1 => 2 * stretch,
-        2 => 3 * stretch,
-        _ => 4 * stretch,
+    let mut most = other_nodes(town);
+    let mut j = 0;
+    while j < MOST_RIDERS {
+        most = plus(most, links_before(town, riders, j));
+        j += 1;
     }
+    most
+}
+
+fn links_before(town: &[usize; NUMBERS], riders: usize, j: usize) -> usize {
+    if in_set(riders, j) {
+        return other_nodes(town);
+    }
+    0
 }
 
 // The finish of a drive, if it ends at the target.
-fn finish(town: &[usize; NUMBERS], distances: [usize; PAIRS], riders: usize, drive: Path) -> Plan {
+fn finish(town: &[usize; NUMBERS], distances: &[usize; PAIRS], riders: usize, drive: Path) -> Plan {
     if node_at(town, drive, drive.count) != town[TARGET] {
         return plans::without_steps(NONE);
     }
-    plans::of_drive(drive, priced(town, distances, riders, drive))
+    plans::of_drive(town, drive, priced(town, distances, riders, drive))
 }

@@ -5,7 +5,7 @@ ghost use Prim.Native.Nat.{_≤_};
 const SEED: usize = 20261115;
 
 // The most riders of a town with 0 to 5 nodes: the drives to list grow with both.
-const RIDERS_FOR: [usize; 6] = [0, 3, 3, 3, 2, 1];
+const RIDERS_FOR: [usize; 6] = [0, 7, 3, 3, 2, 1];
 
 const COSTS: [usize; 8] = [0, 0, 1, 1, 1, 2, 65534, 65535];
 
@@ -18,7 +18,7 @@ pub fn town(i: usize) -> [usize; NUMBERS] {
     town[SOURCE] = roll(i, SOURCE, n);
     town[TARGET] = roll(i, TARGET, n);
     town[WEIGHT] = 1 + roll(i, WEIGHT, 3);
-    town[COUNT] = roll(i, COUNT, 1 + RIDERS_FOR[n % 6] % 4);
+    town[COUNT] = roll(i, COUNT, 1 + RIDERS_FOR[n % 6] % 8);
     put_riders(&mut town, i, n);
     put_links(&mut town, i, n);
     town

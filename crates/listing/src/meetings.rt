@@ -18,7 +18,7 @@ struct Nearest {
 // The price of a drive for a set of riders, numbered by its bits, and their meeting positions.
 pub fn priced(
     town: &[usize; NUMBERS],
-    distances: [usize; PAIRS],
+    distances: &[usize; PAIRS],
     riders: usize,
     drive: Path,
 ) -> Meetings {
@@ -26,17 +26,37 @@ pub fn priced(
     let mut positions = [NONE; MOST_RIDERS];
     let mut j = 0;
     while j < MOST_RIDERS {
-        let nearest = nearest_position(town, distances, drive, j);
-        price = plus(price, walked(town, riders, j, nearest.distance));
-        positions[j] = met_at(riders, j, nearest.position);
+        if town[COUNT] <= j {
+            return Meetings { price, positions };
+        }
+        let met = meeting(town, distances, riders, drive, j);
+        price = plus(price, times(town[RIDERS + 2 * j + 1], met.distance));
+        positions[j] = met.position;
         j += 1;
     }
     Meetings { price, positions }
 }
 
+// Where rider j is met; nowhere, and without a walk, if not of the set.
+fn meeting(
+    town: &[usize; NUMBERS],
+    distances: &[usize; PAIRS],
+    riders: usize,
+    drive: Path,
+    j: usize,
+) -> Nearest {
+    if !in_set(riders, j) {
+        return Nearest {
+            position: NONE,
+            distance: 0,
+        };
+    }
+    nearest_position(town, distances, drive, j)
+}
+
 fn nearest_position(
     town: &[usize; NUMBERS],
-    distances: [usize; PAIRS],
+    distances: &[usize; PAIRS],
     drive: Path,
     j: usize,
 ) -> Nearest {
@@ -64,25 +84,14 @@ fn nearer(nearest: Nearest, position: usize, distance: usize) -> Nearest {
     nearest
 }
 
-// What rider j's walk adds to the price.
-fn walked(town: &[usize; NUMBERS], riders: usize, j: usize, distance: usize) -> usize {
-    if !in_set(riders, j) {
-        return 0;
-    }
-    times(town[RIDERS + j % MOST_RIDERS * 2 + 1], distance)
-}
-
-fn met_at(riders: usize, j: usize, position: usize) -> usize {
-    if !in_set(riders, j) {
-        return NONE;
-    }
-    position
-}
-
-fn in_set(riders: usize, j: usize) -> bool {
+pub fn in_set(riders: usize, j: usize) -> bool {
     match j {
         0 => riders % 2 == 1,
         1 => riders / 2 % 2 == 1,
-        _ => riders / 4 % 2 == 1,
+        2 => riders / 4 % 2 == 1,
+        3 => riders / 8 % 2 == 1,
+        4 => riders / 16 % 2 == 1,
+        5 => riders / 32 % 2 == 1,
+        _ => riders / 64 % 2 == 1,
     }
 }

@@ -1,7 +1,6 @@
 // Lists the links that follow each other, for the bus and for walkers alike.
 use crate::sums::plus;
 use trial::inner::*;
-ghost use Prim.Native.Nat.{_≤_};
 
 // Links that follow each other from a node on.
 pub struct Path {
@@ -101,14 +100,12 @@ fn leaves(town: &[usize; NUMBERS], cost: usize, node: usize, k: usize) -> bool {
 }
 
 // How many nodes there are beside any one: links of a path that passes no node twice.
-pub fn other_nodes(town: &[usize; NUMBERS]) -> usize
-    ensures { λ r. ⌜ r ≤ 512 ⌝ }
-{
+pub fn other_nodes(town: &[usize; NUMBERS]) -> usize {
     let n = town[N];
     if n == 0 {
         return 0;
     }
-    (n - 1) % 512
+    n - 1
 }
 
 // The node at a position of a path.

@@ -23,22 +23,30 @@ pub fn without_steps(cost: usize) -> Plan {
 }
 
 // The plan of a drive: at each position the riders met there, then the link.
-pub fn of_drive(drive: Path, meetings: Meetings) -> Plan {
+pub fn of_drive(town: &[usize; NUMBERS], drive: Path, meetings: Meetings) -> Plan {
     let positions = meetings.positions;
     let mut plan = without_steps(meetings.price);
     let mut i = 0;
     while i < drive.count {
-        plan = with_riders(plan, positions, i);
+        plan = with_riders(town, plan, positions, i);
         plan = with_step(plan, 8 + link_at(drive, i) % MOST_LINKS);
         i += 1;
     }
-    with_riders(plan, positions, i)
+    with_riders(town, plan, positions, i)
 }
 
-fn with_riders(before: Plan, positions: [usize; MOST_RIDERS], position: usize) -> Plan {
+fn with_riders(
+    town: &[usize; NUMBERS],
+    before: Plan,
+    positions: [usize; MOST_RIDERS],
+    position: usize,
+) -> Plan {
     let mut plan = before;
     let mut j = 0;
     while j < MOST_RIDERS {
+        if town[COUNT] <= j {
+            return plan;
+        }
         plan = with_rider(plan, j, positions[j] == position);
         j += 1;
     }

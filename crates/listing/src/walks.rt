@@ -7,7 +7,7 @@ ghost use Prim.Native.Nat.{_<_};
 const MOST_NODES: usize = 5;
 
 // A distance for each rider and node.
-pub const PAIRS: usize = 15;
+pub const PAIRS: usize = 35;
 
 pub fn distances(town: &[usize; NUMBERS]) -> [usize; PAIRS] {
     let mut distances = [NONE; PAIRS];
@@ -36,7 +36,7 @@ fn list_walks(town: &[usize; NUMBERS], j: usize, distances: &mut [usize; PAIRS])
 }
 
 fn lower(distances: &mut [usize; PAIRS], at: usize, sum: usize)
-    requires { ⌜ at < 15 ⌝ }
+    requires { ⌜ at < 35 ⌝ }
 {
     if sum < distances[at] {
         distances[at] = sum;
@@ -44,12 +44,12 @@ fn lower(distances: &mut [usize; PAIRS], at: usize, sum: usize)
 }
 
 // Rider j's distance to v.
-pub fn distance(distances: [usize; PAIRS], j: usize, v: usize) -> usize {
+pub fn distance(distances: &[usize; PAIRS], j: usize, v: usize) -> usize {
     distances[pair(j, v)]
 }
 
 fn pair(j: usize, v: usize) -> usize
-    ensures { λ r. ⌜ r < 15 ⌝ }
+    ensures { λ r. ⌜ r < 35 ⌝ }
 {
     j % MOST_RIDERS * MOST_NODES + v % MOST_NODES
 }

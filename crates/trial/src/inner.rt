@@ -4,7 +4,7 @@ use rules::Planned;
 
 pub const MOST_LINKS: usize = 12;
 
-pub const MOST_RIDERS: usize = 3;
+pub const MOST_RIDERS: usize = 7;
 
 // Where the numbers stand in a row: n and m; the request's source, target, bus weight and rider count; then node and
 // weight of each rider, and from, to, drive and walk of each link.
@@ -22,9 +22,9 @@ pub const COUNT: usize = 5;
 
 pub const RIDERS: usize = 6;
 
-pub const LINKS: usize = 12;
+pub const LINKS: usize = 20;
 
-pub const NUMBERS: usize = 60;
+pub const NUMBERS: usize = 68;
 
 // How many places of each room are lent.
 pub struct Places {
@@ -36,7 +36,7 @@ pub struct Places {
 // The places that the rooms have, and what stands in each before the search.
 pub const DISTANCES: usize = 12;
 
-pub const TABLE: usize = 26;
+pub const TABLE: usize = 130;
 
 pub const STEPS: usize = 16;
 
@@ -48,9 +48,9 @@ pub const FIRST_DISTANCE: usize = 3;
 
 pub const FIRST_FINISH: usize = 15;
 
-pub const FIRST_STEP: usize = 41;
+pub const FIRST_STEP: usize = 145;
 
-pub const ANSWER: usize = 57;
+pub const ANSWER: usize = 161;
 
 // What the search answers to a row of numbers, and what it leaves in the rooms.
 pub fn searched(town: &[usize; NUMBERS], lent: Places) -> [usize; ANSWER] {

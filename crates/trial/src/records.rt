@@ -35,8 +35,8 @@ fn put_two(bytes: &mut [u8; 105], at: usize, x: usize)
 }
 
 // The record of the row's request, with zeros behind it.
-pub fn request_bytes(town: &[usize; NUMBERS]) -> [u8; 18] {
-    let mut bytes = [0u8; 18];
+pub fn request_bytes(town: &[usize; NUMBERS]) -> [u8; 30] {
+    let mut bytes = [0u8; 30];
     bytes[0] = 1;
     bytes[2] = low(request_size(town));
     bytes[4] = low(town[SOURCE]);
@@ -48,12 +48,12 @@ pub fn request_bytes(town: &[usize; NUMBERS]) -> [u8; 18] {
 }
 
 pub fn request_size(town: &[usize; NUMBERS]) -> usize
-    ensures { λ r. ⌜ r ≤ 18 ⌝ }
+    ensures { λ r. ⌜ r ≤ 30 ⌝ }
 {
     9 + 3 * (town[COUNT] % (MOST_RIDERS + 1))
 }
 
-fn put_riders(bytes: &mut [u8; 18], town: &[usize; NUMBERS]) {
+fn put_riders(bytes: &mut [u8; 30], town: &[usize; NUMBERS]) {
     let mut j = 0;
     while j < MOST_RIDERS {
         bytes[10 + 3 * j] = low(town[RIDERS + 2 * j]);

@@ -7,7 +7,7 @@ abbrev Inv-loop : tie.InvT-loop
 Inv-loop answer₀ town distances n i₀ answer i = Unit
 
 abbrev μ-loop : tie.MeasureT-loop
-μ-loop answer₀ town distances n i₀ answer i = 26 - i
+μ-loop answer₀ town distances n i₀ answer i = 130 - i
 
 element-copy-out-n : tie.Need-element-copy-out-n Inv-loop μ-loop
 element-copy-out-n c = search needs

@@ -7,7 +7,7 @@ abbrev Inv-loop : tie.InvT-loop
 Inv-loop town₀ i n j₀ town j = Unit
 
 abbrev μ-loop : tie.MeasureT-loop
-μ-loop town₀ i n j₀ town j = 3 - j
+μ-loop town₀ i n j₀ town j = 7 - j
 
 loop-holds : tie.Need-loop-holds Inv-loop μ-loop
 loop-holds c = search needs

@@ -4,10 +4,10 @@ use Rattle.listing.proofs.plans.of_drive.Statement.{statement}
 use Rattle.listing.proofs.plans.of_drive.Tie as tie
 
 abbrev Inv-loop : tie.InvT-loop
-Inv-loop drive positions plan₀ i₀ plan i = Unit
+Inv-loop town drive positions plan₀ i₀ plan i = Unit
 
 abbrev μ-loop : tie.MeasureT-loop
-μ-loop drive positions plan₀ i₀ plan i = drive .count - i
+μ-loop town drive positions plan₀ i₀ plan i = drive .count - i
 
 without-steps-requires : tie.Need-without-steps-requires Inv-loop μ-loop
 without-steps-requires c κs = search needs

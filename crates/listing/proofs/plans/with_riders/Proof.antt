@@ -4,13 +4,19 @@ use Rattle.listing.proofs.plans.with_riders.Statement.{statement}
 use Rattle.listing.proofs.plans.with_riders.Tie as tie
 
 abbrev Inv-loop : tie.InvT-loop
-Inv-loop position positions plan₀ j₀ plan j = Unit
+Inv-loop town position positions plan₀ j₀ plan j = Unit
 
 abbrev μ-loop : tie.MeasureT-loop
-μ-loop position positions plan₀ j₀ plan j = 3 - j
+μ-loop town position positions plan₀ j₀ plan j = 7 - j
 
 loop-holds : tie.Need-loop-holds Inv-loop μ-loop
 loop-holds c = search needs
+
+element-copy-out-if1 : tie.Need-element-copy-out-if1 Inv-loop μ-loop
+element-copy-out-if1 c = search needs
+
+returns : tie.Need-returns Inv-loop μ-loop
+returns c = search needs
 
 mul-with-rider : tie.Need-mul-with-rider Inv-loop μ-loop
 mul-with-rider c = search needs
@@ -30,8 +36,8 @@ loop-less c = search needs
 loop-again : tie.Need-loop-again Inv-loop μ-loop
 loop-again c = search needs
 
-returns : tie.Need-returns Inv-loop μ-loop
-returns c = search needs
+returns-2 : tie.Need-returns-2 Inv-loop μ-loop
+returns-2 c = search needs
 
 pub with-riders-spec : {M : Type 1} → statement M
 with-riders-spec =
@@ -40,10 +46,12 @@ with-riders-spec =
     Inv-loop
     μ-loop
     loop-holds
+    element-copy-out-if1
+    returns
     mul-with-rider
     array-read-with-rider
     with-rider-requires
     add-j
     loop-less
     loop-again
-    returns)
+    returns-2)

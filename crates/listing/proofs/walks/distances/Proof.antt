@@ -7,7 +7,7 @@ abbrev Inv-loop : tie.InvT-loop
 Inv-loop town distances₀ j₀ distances j = Unit
 
 abbrev μ-loop : tie.MeasureT-loop
-μ-loop town distances₀ j₀ distances j = 3 - j
+μ-loop town distances₀ j₀ distances j = 7 - j
 
 loop-holds : tie.Need-loop-holds Inv-loop μ-loop
 loop-holds c = search needs

@@ -7,7 +7,7 @@ abbrev Inv-loop : tie.InvT-loop
 Inv-loop answer₀ n table i₀ answer i = Unit
 
 abbrev μ-loop : tie.MeasureT-loop
-μ-loop answer₀ n table i₀ answer i = 26 - i
+μ-loop answer₀ n table i₀ answer i = 130 - i
 
 returns : tie.Need-returns Inv-loop μ-loop
 returns c = search needs

@@ -7,7 +7,7 @@ abbrev Inv-loop : tie.InvT-loop
 Inv-loop town₀ request i₀ town i = Unit
 
 abbrev μ-loop : tie.MeasureT-loop
-μ-loop town₀ request i₀ town i = 6 - i
+μ-loop town₀ request i₀ town i = 14 - i
 
 loop-holds : tie.Need-loop-holds Inv-loop μ-loop
 loop-holds c = search needs

@@ -7,7 +7,7 @@ abbrev Inv-loop : tie.InvT-loop
 Inv-loop a b i₀ i = Unit
 
 abbrev μ-loop : tie.MeasureT-loop
-μ-loop a b i₀ i = 57 - i
+μ-loop a b i₀ i = 161 - i
 
 loop-holds : tie.Need-loop-holds Inv-loop μ-loop
 loop-holds c = search needs

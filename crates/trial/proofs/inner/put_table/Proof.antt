@@ -7,7 +7,7 @@ abbrev Inv-loop : tie.InvT-loop
 Inv-loop answer₀ room i₀ answer i = Unit
 
 abbrev μ-loop : tie.MeasureT-loop
-μ-loop answer₀ room i₀ answer i = 26 - i
+μ-loop answer₀ room i₀ answer i = 130 - i
 
 loop-holds : tie.Need-loop-holds Inv-loop μ-loop
 loop-holds c = search needs

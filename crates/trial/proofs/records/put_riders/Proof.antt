@@ -7,7 +7,7 @@ abbrev Inv-loop : tie.InvT-loop
 Inv-loop bytes₀ town j₀ bytes j = Unit
 
 abbrev μ-loop : tie.MeasureT-loop
-μ-loop bytes₀ town j₀ bytes j = 3 - j
+μ-loop bytes₀ town j₀ bytes j = 7 - j
 
 loop-holds : tie.Need-loop-holds Inv-loop μ-loop
 loop-holds c = search needs
