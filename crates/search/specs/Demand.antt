@@ -25,7 +25,7 @@ pub record Given (network request : List ℕ) (before : Lent) : Type 0 where
   pub steps : stepPlaces (nodeCount network) (requestValue request .count) ≤ length (before .steps)
 
 -- The plan that an answer stands for.
-pub record Answered (network : List ℕ) (q : Request) (before after : Lent) (cost count : ℕ) : Type 0 where
+pub record AnsweredPlan (network : List ℕ) (q : Request) (before after : Lent) (cost count : ℕ) : Type 0 where
   -- its steps stand at the start of their room, and the answer counts them
   pub steps : List ℕ
   pub counts : count ≡ length steps
@@ -41,6 +41,6 @@ pub record Answered (network : List ℕ) (q : Request) (before after : Lent) (co
 pub record Demand3 (network request : List ℕ) (before after : Lent) (answer : Planned) : Type 0 where
   -- what is given is answered by a plan or by 24
   pub answers : Given network request before → ((cost count : ℕ) × (answer ≡ Found cost count)) ⊎ (answer ≡ NotPlanned (refuse 24 0))
-  pub plan : (cost count : ℕ) → answer ≡ Found cost count → Answered network (requestValue request) before after cost count
+  pub plan : (cost count : ℕ) → answer ≡ Found cost count → AnsweredPlan network (requestValue request) before after cost count
   -- ""No route" (24) is answered exactly when no such drive passes corners that all the riders can walk to."
   pub none : (answer ≡ NotPlanned (refuse 24 0)) ↔ (Given network request before × NoDrive network (requestValue request))
