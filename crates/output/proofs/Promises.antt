@@ -1,10 +1,13 @@
 -- What the program prints leaves one result.
-use Prim.Native.Nat.{ℕ}
+use Prim.Native.Nat.{ℕ, _<_}
 use native.Mathlib.Omega.{arith}
 use mathlib.Core.Path.{_≡_, sym, _∙_, ap}
 use mathlib.Core.List.{List}
 use lib.ListN.{length}
-use Rattle.rules.specs.Program.{PlanText, requestPart}
+use Rattle.rules.specs.Request.{source}
+use Rattle.rules.specs.Program.{printed, PlanText, requestPart}
+use Rattle.rules.specs.declared.Planned.{Planned}
+use Rattle.rules.specs.declared.Planned.the-variants.{Plan as Found, Refused as NotPlanned}
 use Rattle.rules.proofs.AnswerLaws.{searched-unique}
 use Rattle.output.specs.Text.{Printed, short, whole}
 
@@ -21,3 +24,12 @@ printed-unique (whole t g tells writes counts) (short h same none) = absurd (ome
 printed-unique {input} {before} (whole t g tells writes counts) (whole u h says put sizes) =
     let same = text-unique (requestPart input) tells says in
     (writes ∙ rw same (sym put), counts ∙ ap length same ∙ sym sizes)
+
+-- No text is empty: it begins with a word. So 0 is told of a room that is too small, and of nothing else.
+pub some-text : {network request text : List ℕ} → PlanText network request text → 0 < length text
+unfolding printed
+some-text {network} {request} t = omega (arith, ap length (t .says), begins (t .answer))
+  where
+    begins : (answer : Planned) → 0 < length (printed network (source request) answer (t .after .distances) (t .after .steps))
+    begins (Found cost count) = omega arith
+    begins (NotPlanned r) = omega arith
