@@ -81,16 +81,8 @@ fn said(plan: Plan) -> [usize; ANSWER] {
     answer[1] = plan.cost;
     answer[2] = plan.count;
     let steps = plan.steps;
-    put_steps(&mut answer, steps);
+    put(&mut answer, FIRST_STEP, &steps);
     answer
-}
-
-fn put_steps(answer: &mut [usize; ANSWER], steps: [usize; STEPS]) {
-    let mut i = 0;
-    while i < STEPS {
-        answer[FIRST_STEP + i] = steps[i];
-        i += 1;
-    }
 }
 
 fn put_distances(

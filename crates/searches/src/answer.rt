@@ -15,30 +15,6 @@ pub fn refused(number: usize, place: usize) -> [usize; ANSWER] {
     answer
 }
 
-// Puts a plan's steps and their number.
-pub fn put_steps(answer: &mut [usize; ANSWER], steps: &[usize]) {
-    answer[2] = steps.len();
-    let mut i = 0;
-    while i < STEPS {
-        if steps.len() <= i {
-            return;
-        }
-        answer[FIRST_STEP + i] = steps[i];
-        i += 1;
-    }
-}
-
-pub fn put_distances(answer: &mut [usize; ANSWER], distances: &[usize]) {
-    let mut i = 0;
-    while i < DISTANCES {
-        if distances.len() <= i {
-            return;
-        }
-        answer[FIRST_DISTANCE + i] = distances[i];
-        i += 1;
-    }
-}
-
 // Puts the rows of a table for n nodes, which hold cost and steps of each node's finish.
 pub fn put_table(answer: &mut [usize; ANSWER], n: usize, table: &[[usize; 10]]) {
     if n == 0 {

@@ -21,8 +21,9 @@ pub fn passes(
         steps: places[2],
     };
     let mut filled = answer::refused(outcome[0], outcome[1]);
-    answer::put_steps(&mut filled, steps);
-    answer::put_distances(&mut filled, distances);
+    filled[2] = steps.len();
+    put(&mut filled, FIRST_STEP, steps);
+    put(&mut filled, FIRST_DISTANCE, distances);
     answer::put_table(&mut filled, town[N], table);
     let mut rooms = 0;
     while rooms <= LARGER {

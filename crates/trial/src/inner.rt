@@ -134,6 +134,20 @@ fn step(x: u16) -> usize {
     x as usize
 }
 
+// Puts numbers into an answer, from a place on.
+pub fn put(answer: &mut [usize; ANSWER], first: usize, numbers: &[usize]) {
+    let mut at = first;
+    let mut i = 0;
+    while at < ANSWER {
+        if numbers.len() <= i {
+            return;
+        }
+        answer[at] = numbers[i];
+        at += 1;
+        i += 1;
+    }
+}
+
 // The first number in which two answers differ, or how many numbers they have.
 pub fn first_difference(a: &[usize; ANSWER], b: &[usize; ANSWER]) -> usize {
     let mut i = 0;

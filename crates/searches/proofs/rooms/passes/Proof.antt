@@ -12,8 +12,8 @@ abbrev μ-loop : tie.MeasureT-loop
 array-read-refused : tie.Need-array-read-refused Inv-loop μ-loop
 array-read-refused c = search needs
 
-array-read-put-table : tie.Need-array-read-put-table Inv-loop μ-loop
-array-read-put-table c = search needs
+array-read-filled : tie.Need-array-read-filled Inv-loop μ-loop
+array-read-filled c = search needs
 
 array-read-refused-2 : tie.Need-array-read-refused-2 Inv-loop μ-loop
 array-read-refused-2 c = search needs
@@ -27,11 +27,14 @@ array-read-refused-4 c = search needs
 refused-requires : tie.Need-refused-requires Inv-loop μ-loop
 refused-requires c κs = search needs
 
-put-steps-requires : tie.Need-put-steps-requires Inv-loop μ-loop
-put-steps-requires c κs = search needs
+array-write-filled : tie.Need-array-write-filled Inv-loop μ-loop
+array-write-filled c = search needs
 
-put-distances-requires : tie.Need-put-distances-requires Inv-loop μ-loop
-put-distances-requires c κs = search needs
+put-requires : tie.Need-put-requires Inv-loop μ-loop
+put-requires c κs = search needs
+
+put-requires-2 : tie.Need-put-requires-2 Inv-loop μ-loop
+put-requires-2 c κs = search needs
 
 element-copy-out-put-table : tie.Need-element-copy-out-put-table Inv-loop μ-loop
 element-copy-out-put-table c = search needs
@@ -76,13 +79,14 @@ passes-spec =
     Inv-loop
     μ-loop
     array-read-refused
-    array-read-put-table
+    array-read-filled
     array-read-refused-2
     array-read-refused-3
     array-read-refused-4
     refused-requires
-    put-steps-requires
-    put-distances-requires
+    array-write-filled
+    put-requires
+    put-requires-2
     element-copy-out-put-table
     put-table-requires
     loop-holds
