@@ -1,7 +1,7 @@
 /* The depot's small town and a request in it, as records. */
 #include <stdint.h>
 
-/* 5 corners and 8 links: from, to, drive, walk; 0xFFFF is closed. */
+/* 5 nodes and 8 links: from, to, drive, walk; 0xFFFF is closed. */
 static const uint8_t town[73] = {
     1, 0, 0, 0, 73, 0, 5, 0, 8,
     0, 0, 0, 1, 0, 3, 0, 9,
@@ -14,5 +14,5 @@ static const uint8_t town[73] = {
     0, 2, 0, 4, 0, 1, 0, 6,
 };
 
-/* From corner 0 to corner 3 at bus weight 1, with one rider at corner 4 who weighs 1. */
+/* From node 0 to node 3 at bus weight 1, with one rider at node 4 who weighs 1. */
 static const uint8_t rider_at_4[12] = {1, 0, 12, 0, 0, 0, 3, 1, 1, 0, 4, 1};

@@ -4,12 +4,14 @@
  * Every function takes parts of memory as a pointer and a number of elements. No pointer may be NULL, not even with
  * 0 elements, and each must be aligned for its elements. A part that is written may overlap no other. Nothing outside
  * the parts is read or written, nothing is kept after the call, and there is no input of any length or content that
- * makes a call fail otherwise than by its result.
+ * makes a call fail otherwise than by its result. A call takes under 16 KiB of stack.
  *
  * A result below 2^63 is what was asked for. A refusal is 2^63 + 65,536 * place + number; the tablet's is 2^63 +
- * number, without the place. The numbers 1 to 6 refuse the network record, 11 to 17 the request record. The place is
- * that of the bad link, of the bad node (0 source, 1 target, 2 + j rider j) or of the bad weight (0 bus, 1 + j rider
- * j), and 0 where there is none to name. A refusal leaves every part as it was, except 24 (see there).
+ * number, without the place. Where several apply, the first is given in the order in which they are listed below, and
+ * at the lowest place. The numbers 1 to 6 refuse the network record, 11 to 17 the request record. The place is the
+ * number of the bad link for 6, that of the bad node for 16 (0 source, 1 target, 2 + j rider j), that of the bad
+ * weight for 17 (0 bus, 1 + j rider j), and 0 where none is named. A refusal leaves every part as it was, except 24
+ * (see there).
  */
 #ifndef TIVELGOR_H
 #define TIVELGOR_H
@@ -30,7 +32,8 @@ extern "C" {
  * Gives the price, which is below 2^63; or, if anything is wrong with the records or the route, 2^63 plus the number
  * of the refusal: 1 to 6 for the network, 11 to 17 for the request, 38 for an odd number of route bytes, 32 for more
  * than 4,095 links, 33 to 35 for a link that does not exist, is closed to the bus or does not start where the route
- * stands, 36 for a route that does not end at the target, 37 for a rider who can walk to no corner of it.
+ * stands (the lowest such link of the route), 36 for a route that does not end at the target, 37 for a rider who can
+ * walk to no position of it.
  */
 uint64_t tivelgor_tablet_price(const uint8_t *network, size_t network_length,
                                const uint8_t *request, size_t request_length,
@@ -80,7 +83,7 @@ uint64_t tivelgor_walk(const uint8_t *network, size_t network_length,
  *   network, request  the two records, as bytes
  *   route             the route's link numbers
  *   meeting           needs l places: place j becomes the position of the route (0 the source, i + 1 behind its link i)
- *                     where rider j is met
+ *                     where rider j is met, the earliest of those to which the walk is shortest
  *
  * Gives the price; or a refusal 1 to 6 or 11 to 17, 31 for fewer than l places, or 32 to 37 as on the tablet, at the
  * link's index in the route for 33 to 35 and at the rider for 37. Later places keep their values.

@@ -17,15 +17,15 @@ static void price(const char *name, const uint8_t *route, size_t length)
 
 int main(void)
 {
-    static const uint8_t past_corner_1[] = {0, 0, 0, 1};
-    static const uint8_t past_corner_2[] = {0, 2, 0, 3};
+    static const uint8_t past_node_1[] = {0, 0, 0, 1};
+    static const uint8_t past_node_2[] = {0, 2, 0, 3};
     static const uint8_t past_the_rider[] = {0, 2, 0, 7, 0, 5, 0, 3};
     static const uint8_t through_the_wall[] = {0, 0, 0, 6};
     static const uint8_t short_of_the_target[] = {0, 0};
     static const uint8_t half_a_link[] = {0, 0, 0};
 
-    price("past corner 1", past_corner_1, sizeof past_corner_1);
-    price("past corner 2", past_corner_2, sizeof past_corner_2);
+    price("past node 1", past_node_1, sizeof past_node_1);
+    price("past node 2", past_node_2, sizeof past_node_2);
     price("past the rider", past_the_rider, sizeof past_the_rider);
     price("through the wall", through_the_wall, sizeof through_the_wall);
     price("short of the target", short_of_the_target, sizeof short_of_the_target);
