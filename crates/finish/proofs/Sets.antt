@@ -45,8 +45,8 @@ ones-without R zero h = omega (arith, ones-step R, rw (half-without-first R h) a
 ones-without R (suc j) h =
     omega (arith, has-le R (suc j) h, pow-succ' 2 j, ones-step R, rw (half-without R j h) at (ones-step (without R (suc j))), ones-without (R / 2) j (half-has R j h))
 
--- "The number of riders still to be met is the count of ones in R": none exactly when R is empty.
-nobody : ones 0 ≡ 0
+-- The count of ones is 0 exactly when R is empty.
+pub nobody : ones 0 ≡ 0
 unfolding ones onesIn
 nobody = refl
 

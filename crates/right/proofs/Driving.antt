@@ -3,6 +3,7 @@ use Prim.Native.Nat.{ℕ, zero, suc, _+_, _-_, _*_, _^_, _<_, _≤_}
 use mathlib.Core.Path.{_≡_, refl, sym, ap, _∙_}
 use mathlib.Core.Logic.{_≢_}
 use mathlib.Core.List.{List}
+use lib.Count.{ones}
 use lib.ListN.{length}
 use native.Mathlib.Nat.{mul-add, mul-zero}
 use native.Mathlib.Decide.{ℕ-discrete}
@@ -14,7 +15,7 @@ use Rattle.rules.specs.Plans.{Has, Finish, arrive, meet, drive}
 use Rattle.rules.specs.declared.Request.{Request}
 use Rattle.rules.proofs.WalkLaws.{way-sum, distance-unique}
 use Rattle.right.specs.Steps.{drivesOf, metAt, timesMet}
-use Rattle.finish.proofs.Sets.{none-has, has-below, without-others, all-have}
+use Rattle.finish.proofs.Sets.{none-has, has-below, ones-without, nobody, without-others, all-have}
 use Rattle.right.proofs.Sets.{first-without, first-small}
 use Rattle.right.proofs.Steps.{drives-meet, drives-drive, times-here, times-other}
 use Rattle.right.proofs.Adding.{added-drives, added-at, added-other, take}
@@ -61,6 +62,15 @@ module _ {network : List ℕ} {q : Request} where
     | no g ↦ times-other steps g ∙ met-once j rider (without-others R i has j .1 (h, λ o. g (sym o))) f
   ]
   met-once j rider h (drive {step = step} {steps = steps} k x w rest s link f e) = times-other {step = step} steps (omega arith) ∙ met-once j rider h f
+
+  -- "The number of riders still to be met is the count of ones in R": so many steps of a finish are no drives.
+  pub met-count : {R v c : ℕ} {steps : List ℕ} → R < 2 ^ 7 → Finish network q R v steps c → length steps ≡ ones R + length (drivesOf steps)
+  unfolding drivesOf
+  met-count small (arrive e t z) = rw (e, nobody)
+  met-count {R} small (meet {j = j} {steps = steps} d rest has walks f e) =
+      rw (drives-meet {step = j} steps (omega (arith, has-below R j 7 small has))) (omega (arith, ones-without R j has, met-count (omega arith) f))
+  met-count small (drive {step = step} {steps = steps} k x w rest s link f e) =
+      rw (drives-drive {step = step} steps (omega arith)) (omega (arith, met-count small f))
 
   -- Rider j is met at a position of the route, and has a walking distance to its node.
   pub met-within : {R v c : ℕ} {steps : List ℕ} (j : ℕ) → R < 2 ^ 7 → Has R j → Finish network q R v steps c → metAt j steps ≤ length (drivesOf steps)

@@ -3,7 +3,7 @@ use Prim.Native.Nat.{ℕ, zero, suc, _+_, _-_, _*_, _^_, _<_, _≤_}
 use mathlib.Core.Path.{_≡_, refl, sym, ap, ap₂, subst, _∙_}
 use mathlib.Core.Logic.{_↔_}
 use mathlib.Core.List.{List, [], _∷_, map}
-use lib.ListN.{length, getD, length-map}
+use lib.ListN.{length, getD}
 use native.Mathlib.Nat.{add-zero, mul-add, mul-zero}
 use native.Mathlib.Decide.{ℕ-discrete, decLt}
 use native.Mathlib.Omega.{arith}
@@ -17,7 +17,7 @@ use Rattle.right.specs.Steps.{drivesOf, metAt, SumAt, Along, NoDrive}
 use Rattle.right.proofs.Below.{chosen, not-missing}
 use Rattle.right.proofs.Sets.{first-without, first-small}
 use Rattle.right.proofs.Steps.{drives-drive}
-use Rattle.right.proofs.Adding.{added-length, added-drives, added-at, added-other, Put, put}
+use Rattle.right.proofs.Adding.{added-drives, added-at, added-other, Put, put}
 use Rattle.right.proofs.Driving.{driven, met-within, met-walks, met-cost}
 
 -- the steps that drive a route and meet nobody
@@ -48,7 +48,6 @@ module _ {network : List ℕ} {q : Request} where
           | yes e ↦ rw e (added-at rider (p .added))
           | no g ↦ added-other rider {i = j} (omega arith) g (p .added) ∙ t .meets j (omega arith)
         ];
-        counts = omega (arith, added-length (p .added));
       }
 
   -- Steps for the first l riders, by induction on l: the next one is put in at its position, after the others that are met there.
@@ -63,7 +62,6 @@ module _ {network : List ℕ} {q : Request} where
         finishes = rw add-zero (way-finish way);
         drives = drives-map route;
         meets = λ j h. absurd (omega arith);
-        counts = omega (arith, length-map route driveStep);
       }
   along-first {route = route} position walking (suc l) small way within walks =
       let t = along-first position walking l (omega arith) way (λ j h. within j (omega arith)) (λ j h. walks j (omega arith)) in
@@ -90,7 +88,7 @@ module _ {network : List ℕ} {q : Request} where
           adds = met-cost (q .count) walking riders f (t .way) walks;
         }
 
-    -- Conversely a route with a position for each rider has a plan at the sum taken there, with one step for each rider and each link.
+    -- Conversely a route with a position for each rider has a plan at the sum taken there.
     pub sum-plan : {route : List ℕ} {position : ℕ → ℕ} {cost : ℕ} → SumAt network q route position cost → Along network q (q .count) route position cost
     sum-plan {position = position} s = rw (s .adds) (along-first position (s .walking) (q .count) riders (s .drives) (s .within) (s .walks))
 

@@ -48,7 +48,6 @@ pub record Along (network : List ℕ) (q : Request) (count : ℕ) (route : List 
   pub finishes : Finish network q (2 ^ count - 1) (q .source) steps cost
   pub drives : drivesOf steps ≡ route
   pub meets : (j : ℕ) → j < count → metAt j steps ≡ position j
-  pub counts : length steps ≡ count + length route
 
 -- No drive from source to target passes, for each rider, a node that the rider can walk to.
 abbrev pub NoDrive : List ℕ → Request → Type 0
