@@ -4,3 +4,5 @@ pub mod Spread
 pub mod Few
 pub mod Shortening
 pub mod Walking
+pub mod Decide
+pub mod Collect

@@ -1,7 +1,6 @@
 -- The price is the paper's, and rests on the costs that it should rest on.
 pub mod TwoWay
 pub mod Fraction
-pub mod Decide
 pub mod Prices
 pub mod Definition
 pub mod Ways

@@ -1,7 +1,7 @@
 -- A legal route whose riders all reach it has a price.
-use Prim.Native.Nat.{ℕ, zero, suc, _+_, _*_, _≤_, _<_}
-use mathlib.Core.Path.{_≡_, refl, ap}
-use mathlib.Core.List.{List, [], _∷_}
+use Prim.Native.Nat.{ℕ, suc, _+_, _*_, _≤_, _<_}
+use mathlib.Core.Path.{refl}
+use mathlib.Core.List.{List}
 use native.Mathlib.Decide.{decLt}
 use native.Mathlib.Omega.{arith}
 use lib.ListN.{length, getD}
@@ -9,21 +9,9 @@ use Rattle.rules.specs.Network.{SoundNetwork, nodeCount}
 use Rattle.rules.specs.Request.{SoundValue, riderWeightOf}
 use Rattle.rules.specs.Routes.{Route, nodeAt, Reaches, RiderWalks, Meeting, sum}
 use Rattle.rules.specs.declared.Request.{Request}
+use Rattle.least.proofs.Decide.{Lowest, dec-lowest, lowest-of, some-distance, dec-distance}
+use Rattle.least.proofs.Collect.{collect}
 use Rattle.paper.specs.Prices.{HasPrice}
-use Rattle.paper.proofs.Decide.{Lowest, dec-lowest, lowest-of, some-distance, dec-distance}
-
--- What holds of some number for each j below the count holds of the numbers of a list.
-module _ (M : ℕ → ℕ → Type 0) where
-  one-more : {count x : ℕ} (xs : List ℕ) → M 0 x → ((j : ℕ) → j < count → M (suc j) (getD xs j 0)) → (j : ℕ) → j < suc count → M j (getD (x ∷ xs) j 0)
-  one-more xs here later zero h = here
-  one-more xs here later (suc j) h = later j (omega arith)
-
-collect : (count : ℕ) (M : ℕ → ℕ → Type 0) → ((j : ℕ) → j < count → (x : ℕ) × M j x) → (xs : List ℕ) × (length xs ≡ count) × ((j : ℕ) → j < count → M j (getD xs j 0))
-collect zero M each = ([], refl, λ j h. absurd (omega arith))
-collect (suc count) M each =
-    let (xs, size, hold) = collect count (λ j. M (suc j)) (λ j h. each (suc j) (omega arith)) in
-    let (x, here) = each 0 (omega arith) in
-    (x ∷ xs, ap suc size, one-more M xs here hold)
 
 -- Riders who have each a meeting position make a list of them, and a price.
 pub meet : {network : List ℕ} (q : Request) {route : List ℕ} {driving : ℕ} (walking : ℕ → ℕ) → Route network q route driving → ((j : ℕ) → j < q .count → (p : ℕ) × Meeting network q route j p (walking j)) → HasPrice network q route (q .weight * driving + sum (q .count) (λ j. riderWeightOf q j * walking j))

@@ -5,16 +5,18 @@ use mathlib.Core.Logic.{_↔_}
 use mathlib.Core.List.{List, [], _∷_, map}
 use lib.ListN.{length, getD}
 use native.Mathlib.Nat.{add-zero, mul-add, mul-zero}
-use native.Mathlib.Decide.{ℕ-discrete, decLt}
+use native.Mathlib.Decide.{ℕ-discrete}
 use native.Mathlib.Omega.{arith}
-use Rattle.rules.specs.Request.{riderWeightOf}
-use Rattle.rules.specs.Walks.{Way, arrived, along, Walk, WalkingDistance}
+use Rattle.rules.specs.Network.{SoundNetwork, nodeCount}
+use Rattle.rules.specs.Request.{riderWeightOf, SoundValue}
+use Rattle.rules.specs.Walks.{Way, arrived, along}
 use Rattle.rules.specs.Routes.{Drivable, Route, RiderWalks, nodeAt, sum, Price}
 use Rattle.rules.specs.Plans.{driveStep, Finish, arrive, drive, Plan, RightPlan, NoPlan}
 use Rattle.rules.specs.declared.Request.{Request}
+use Rattle.least.proofs.Decide.{some-distance}
+use Rattle.least.proofs.Collect.{collect}
 use Rattle.finish.proofs.Sets.{all-have}
 use Rattle.right.specs.Steps.{drivesOf, metAt, SumAt, Along, NoDrive}
-use Rattle.right.proofs.Below.{chosen, not-missing}
 use Rattle.right.proofs.Sets.{first-without, first-small}
 use Rattle.right.proofs.Steps.{drives-drive}
 use Rattle.right.proofs.Adding.{added-drives, added-at, added-other, Put, put}
@@ -25,12 +27,6 @@ drives-map : (route : List ℕ) → drivesOf (map driveStep route) ≡ route
 unfolding drivesOf
 drives-map [] = refl
 drives-map (k ∷ route) = let same : driveStep k - 8 ≡ k = omega arith in drives-drive (map driveStep route) (omega arith) ∙ ap₂ _∷_ same (drives-map route)
-
--- There is a distance where there is a walk: the sum of one that none undercuts.
-some-distance : {network : List ℕ} {u v : ℕ} (most c : ℕ) (links : List ℕ) → c < most → Walk network u v links c → ¬ ((d : ℕ) → ¬ (WalkingDistance network u v d))
-some-distance zero c links h w none = omega arith
-some-distance (suc most) c links h w none =
-    none c (record { links = links; walked = w; least = λ other s o. elim (decLt s c) [ yes g ↦ absurd (some-distance most s other (omega arith) o none) | no g ↦ omega arith ] })
 
 module _ {network : List ℕ} {q : Request} where
   way-finish : {v driving : ℕ} {route : List ℕ} → Way (Drivable network) (q .target) v route driving → Finish network q 0 v (map driveStep route) (q .weight * driving)
@@ -78,7 +74,8 @@ module _ {network : List ℕ} {q : Request} where
     plan-sum {steps} f =
         let small = first-small (q .count) riders in
         let t = driven small f in
-        let (walking, walks) = chosen (q .count) 0 {P = λ j d. RiderWalks network q j (nodeAt network (q .source) (drivesOf steps) (metAt j steps)) d} (λ j h. met-walks j small (all-have (q .count) j .1 h) f) in
+        let (distances, size, walks) = collect (q .count) (λ j d. RiderWalks network q j (nodeAt network (q .source) (drivesOf steps) (metAt j steps)) d) (λ j h. met-walks j small (all-have (q .count) j .1 h) f) in
+        let walking : ℕ → ℕ = λ j. getD distances j 0 in
         record {
           driving = t .driving;
           walking = walking;
@@ -99,26 +96,21 @@ module _ {network : List ℕ} {q : Request} where
     pub right-cheapest : {steps route meetings : List ℕ} {cost price : ℕ} → RightPlan network q steps cost → Price network q route meetings price → cost ≤ price
     right-cheapest r p = right-least r (price-sum p)
 
+  module _ (sound : SoundNetwork network) (value : SoundValue (nodeCount network) q) where
     -- Where there is no plan, no drive passes nodes that all riders can walk to. If one did, each rider would have a walking distance to a position, and the drive with these positions would be a plan.
     no-drive : NoPlan network q → NoDrive network q
     no-drive none route driving way reach =
-        not-missing (q .count) (λ j. (m : ℕ × ℕ) × met j m)
-        (λ j h no. let r = reach j h in some-distance (suc (r .sum)) (r .sum) (r .links) (omega arith) (r .walk) (λ d w. no ((r .position, d), (r .within, w))))
-        (λ all. plan (chosen (q .count) (0, 0) {P = met} all))
-      where
-        met : ℕ → ℕ × ℕ → Type 0
-        met j m = (m .0 ≤ length route) × RiderWalks network q j (nodeAt network (q .source) route (m .0)) (m .1)
-
-        plan : (f : ℕ → ℕ × ℕ) × ((j : ℕ) → j < q .count → met j (f j)) → ⊥
-        plan (m, holds) =
-            let a = sum-plan (record { driving = driving; walking = λ j. m j .1; drives = way; within = λ j h. holds j h .0; walks = λ j h. holds j h .1; adds = refl }) in
-            none (a .steps) _ (a .finishes)
+        let At : ℕ → ℕ → ℕ → Type 0 = λ j p d. RiderWalks network q j (nodeAt network (q .source) route p) d in
+        let (positions, _, there) = collect (q .count) (λ j p. (p ≤ length route) × ((d : ℕ) × At j p d)) (λ j h. (reach j h .position, (reach j h .within, some-distance network _ sound (value .nodes j h) (reach j h .walk)))) in
+        let (distances, _, walks) = collect (q .count) (λ j. At j (getD positions j 0)) (λ j h. there j h .1) in
+        let a = sum-plan (value .riders) (record { driving = driving; walking = λ j. getD distances j 0; drives = way; within = λ j h. there j h .0; walks = walks; adds = refl }) in
+        none (a .steps) _ (a .finishes)
 
     -- There is no plan exactly when no drive from source to target passes, for each rider, a node that the rider can walk to.
     pub no-plan : NoPlan network q ↔ NoDrive network q
     no-plan = (
       no-drive,
       λ none steps cost f.
-          let s = plan-sum f in
+          let s = plan-sum (value .riders) f in
           none (drivesOf steps) (s .driving) (s .drives) (λ j h. record { position = metAt j steps; links = s .walks j h .links; sum = s .walking j; within = s .within j h; walk = s .walks j h .walked }),
     )

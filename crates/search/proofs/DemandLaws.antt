@@ -54,7 +54,7 @@ module _ (network request : List ℕ) {before : Lent} where
       record {
         answers = λ _. inr a;
         plan = λ cost count told. let z : _≡_ {A = ℕ} 0 1 = cc in absurd (omega arith);
-        none = (λ told. (given, no-plan (value given .riders) .0 unplanned), λ _. a);
+        none = (λ told. (given, no-plan (given .network-sound) (value given) .0 unplanned), λ _. a);
       }
   demand-3 (planned steps c v d t right a w) =
       let given = passes-given v in
@@ -74,6 +74,6 @@ module _ (network request : List ℕ) {before : Lent} where
             };
         none = (
           λ told. (let z : _≡_ {A = ℕ} 0 1 = cc in absurd (omega arith)),
-          λ (given, blocked). absurd (no-plan (sound .riders) .1 blocked _ _ (right .best .finishes)),
+          λ (given, blocked). absurd (no-plan (given .network-sound) sound .1 blocked _ _ (right .best .finishes)),
         );
       }
