@@ -110,12 +110,12 @@ word-done {l} {r} {front} word i none so = adding-done (subst (λ (k : ℕ). Add
 pub spelling-room : {l t : Line} (x rest : ℕ) → Room 20 l → Adding l (decimal x) (decimal rest) t → Room 1 t
 spelling-room x rest room so = adding-room (omega (arith, room .free, decimal-length x .1)) so (decimal-length rest .0)
 
--- a number leaves room for the space before it
-pub room-left : {l r : Line} (x : ℕ) → Room 21 l → Added l (decimal x) r → Room 1 r
-room-left x room so =
+-- what was put in front leaves so much room
+pub room-left : {more : ℕ} (less : ℕ) {l r : Line} {front : List ℕ} → less + length front ≤ more → Room more l → Added l front r → Room less r
+room-left less enough room so =
     record {
       size = so .size;
-      free = omega (arith, room .free, so .start, decimal-length x .1);
+      free = omega (arith, enough, room .free, so .start);
       within = omega (arith, room .within, so .start);
       clear = so .clear;
     }
@@ -143,17 +143,8 @@ reads-more {l} {r} {a} {text} so more =
 pub feed-room : {l : Line} → Reads l (10 ∷ []) → Room 95 l
 feed-room so = record { size = so .size; free = omega (arith, so .start); within = omega (arith, so .start); clear = so .clear }
 
-pub field-room : (more x : ℕ) {l r : Line} → Room (more + 21) l → Added l (32 ∷ decimal x) r → Room more r
-field-room more x room so =
-    record {
-      size = so .size;
-      free = omega (arith, room .free, so .start, decimal-length x .1);
-      within = omega (arith, room .within, so .start);
-      clear = so .clear;
-    }
-
-pub room-less : (more less : ℕ) {l : Line} → less ≤ more → Room more l → Room less l
-room-less more less small room = record { size = room .size; free = omega (arith, small, room .free); within = room .within; clear = room .clear }
+pub field-room : {more : ℕ} (less x : ℕ) {l r : Line} → less + 21 ≤ more → Room more l → Added l (32 ∷ decimal x) r → Room less r
+field-room less x enough room so = room-left less (omega (arith, enough, decimal-length x .1)) room so
 
 pub reads-room : {l : Line} {text : List ℕ} → Reads l text → Room 0 l
 reads-room so = record { size = so .size; free = omega arith; within = omega (arith, so .start); clear = so .clear }

@@ -1,5 +1,5 @@
 use native.Mathlib.Omega.{arith}
-use Rattle.lines.proofs.TextLaws.{feed-room, field-room, room-less, three-fields}
+use Rattle.lines.proofs.TextLaws.{feed-room, field-room, three-fields}
 use borrow.Author.Needs.{needs}
 use Rattle.lines.proofs.meet_line.Statement.{statement}
 use Rattle.lines.proofs.meet_line.Tie as tie
@@ -11,16 +11,16 @@ field-requires : tie.Need-field-requires
 field-requires c κs = search needs
 
 field-requires-2 : tie.Need-field-requires-2
-field-requires-2 c κs = room-less 74 21 (omega arith) (field-room 74 _ (feed-room (c .before .line-feed .ensures)) (c .field .ensures))
+field-requires-2 c κs = field-room 21 _ (omega arith) (feed-room (c .before .line-feed .ensures)) (c .field .ensures)
 
 field-requires-3 : tie.Need-field-requires-3
-field-requires-3 c κs = room-less 53 21 (omega arith) (field-room 53 _ (field-room 74 _ (feed-room (c .before .before .line-feed .ensures)) (c .before .field .ensures)) (c .field2 .ensures))
+field-requires-3 c κs = field-room 21 _ (omega arith) (field-room 74 _ (omega arith) (feed-room (c .before .before .line-feed .ensures)) (c .before .field .ensures)) (c .field2 .ensures)
 
 slice-aggregate-word : tie.Need-slice-aggregate-word
 slice-aggregate-word c = search needs
 
 word-requires : tie.Need-word-requires
-word-requires c κs = room-less 32 4 (omega arith) (field-room 32 _ (field-room 53 _ (field-room 74 _ (feed-room (c .before .before .before .before .line-feed .ensures)) (c .before .before .before .field .ensures)) (c .before .before .field2 .ensures)) (c .before .field3 .ensures))
+word-requires c κs = field-room 4 _ (omega arith) (field-room 53 _ (omega arith) (field-room 74 _ (omega arith) (feed-room (c .before .before .before .before .line-feed .ensures)) (c .before .before .before .field .ensures)) (c .before .before .field2 .ensures)) (c .before .field3 .ensures)
 
 returns : tie.Need-returns
 returns c = three-fields (c .before .before .before .before .before .before .args .node) (c .before .before .before .before .before .before .args .distance) (c .before .before .before .before .before .line-feed .ensures) (c .before .before .before .before .field .ensures) (c .before .before .before .field2 .ensures) (c .before .before .before .before .before .before .args .rider) (c .before .before .field3 .ensures) (c .word .ensures)

@@ -1,5 +1,5 @@
 use native.Mathlib.Omega.{arith}
-use Rattle.lines.proofs.TextLaws.{feed-room, field-room, room-less, two-fields}
+use Rattle.lines.proofs.TextLaws.{feed-room, field-room, two-fields}
 use borrow.Author.Needs.{needs}
 use Rattle.lines.proofs.refused_line.Statement.{statement}
 use Rattle.lines.proofs.refused_line.Tie as tie
@@ -11,13 +11,13 @@ field-requires : tie.Need-field-requires
 field-requires c κs = search needs
 
 field-requires-2 : tie.Need-field-requires-2
-field-requires-2 c κs = room-less 74 21 (omega arith) (field-room 74 _ (feed-room (c .before .line-feed .ensures)) (c .field .ensures))
+field-requires-2 c κs = field-room 21 _ (omega arith) (feed-room (c .before .line-feed .ensures)) (c .field .ensures)
 
 slice-aggregate-word : tie.Need-slice-aggregate-word
 slice-aggregate-word c = search needs
 
 word-requires : tie.Need-word-requires
-word-requires c κs = room-less 53 7 (omega arith) (field-room 53 _ (field-room 74 _ (feed-room (c .before .before .before .line-feed .ensures)) (c .before .before .field .ensures)) (c .before .field2 .ensures))
+word-requires c κs = field-room 7 _ (omega arith) (field-room 74 _ (omega arith) (feed-room (c .before .before .before .line-feed .ensures)) (c .before .before .field .ensures)) (c .before .field2 .ensures)
 
 returns : tie.Need-returns
 returns c = two-fields (c .before .before .before .before .before .args .number) (c .before .before .before .before .before .args .place) (c .before .before .before .before .line-feed .ensures) (c .before .before .before .field .ensures) (c .before .before .field2 .ensures) (c .word .ensures)

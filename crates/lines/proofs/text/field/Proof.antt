@@ -1,3 +1,5 @@
+use native.Mathlib.Omega.{arith}
+use Rattle.lines.proofs.DecimalLaws.{decimal-length}
 use Rattle.lines.proofs.TextLaws.{added-both, room-left}
 use borrow.Author.Needs.{needs}
 use Rattle.lines.proofs.text.field.Statement.{statement}
@@ -7,7 +9,7 @@ number-requires : tie.Need-number-requires
 number-requires c κs = search needs
 
 put-requires : tie.Need-put-requires
-put-requires c κs = room-left (c .before .args .x) (c .before .pre) (c .number .ensures)
+put-requires c κs = room-left 1 (omega (arith, decimal-length (c .before .args .x) .1)) (c .before .pre) (c .number .ensures)
 
 returns : tie.Need-returns
 returns c = added-both (c .before .number .ensures) (c .put .ensures)
