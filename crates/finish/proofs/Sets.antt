@@ -54,6 +54,10 @@ pub somebody : (R : ℕ) → ones R ≢ 0 → 0 < R
 somebody zero h = absurd (h nobody)
 somebody (suc R) h = omega arith
 
+pub nobody-empty : (k R : ℕ) → R < 2 ^ k → ones R ≡ 0 → R ≡ 0
+nobody-empty zero R small none = omega arith
+nobody-empty (suc k) R small none = omega (arith, ones-step R, nobody-empty k (R / 2) (omega (arith, pow-succ' 2 k)) (omega (arith, ones-step R)))
+
 pub nobody-has : (R j : ℕ) → ones R ≡ 0 → Has R j → ⊥
 nobody-has R j none h = omega (arith, ones-without R j h)
 

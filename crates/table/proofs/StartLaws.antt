@@ -18,7 +18,7 @@ use Rattle.rules.specs.declared.Request.{Request}
 use Rattle.least.specs.Least.{Least}
 use Rattle.finish.specs.Packed.{packedStep, Packed, Ends}
 use Rattle.finish.specs.Rows.{MetSeen}
-use Rattle.finish.proofs.Sets.{has-le, has-below, somebody, nobody-has, without-less, without-others, lowest-rider}
+use Rattle.finish.proofs.Sets.{has-le, has-below, somebody, nobody-empty, nobody-has, without-less, without-others, lowest-rider}
 use Rattle.finish.proofs.Rows.{arrived-least, outside-more, none-seen, all-seen, rider-reaches, rider-strays}
 use Rattle.table.specs.Filling.{RowReady, Seeing, meetingStep}
 use Rattle.table.proofs.RowLaws.{place-within, few-sets}
@@ -43,8 +43,8 @@ rider-seen {q = q} {d = d} {rest} {t} j more sound h has walks l s = elim (ℕ-d
 ]
 
 -- With no rider to meet, a finish ends at the target.
-pub arrived : {network : List ℕ} {q : Request} {R v value : ℕ} → R ≤ 0 → (v ≡ q .target → value ≡ 0) → (v ≢ q .target → value ≡ noFinish) → Least noFinish (Ends network q R v) value
-arrived {R = R} none here there = let empty : R ≡ 0 = omega arith in rw empty (arrived-least here there)
+pub arrived : {network : List ℕ} {q : Request} {R v value : ℕ} → R < 2 ^ q .count → ones R ≡ 0 → (v ≡ q .target → value ≡ 0) → (v ≢ q .target → value ≡ noFinish) → Least noFinish (Ends network q R v) value
+arrived {q = q} {R} small none here there = rw (nobody-empty (q .count) R small none) (arrived-least here there)
 
 -- Rider j is left, so it is a rider of the request, and its bit is in the set and in what is left of it.
 pub record Next (q : Request) (R left j : ℕ) : Type 0 where

@@ -41,7 +41,7 @@ fn start_value(
     requires { ⌜ (v < nodeCount (now network)) × RowReady (now network) q (now distances) riders (now table) ⌝ }
     ensures { λ r. ⌜ Least noFinish (Ends (now (network .entry)) q riders v) r ⌝ }
 {
-    if 0 < riders {
+    if u32::count_ones(riders) != 0 {
         return least_meeting(network, q, distances, table, riders, v);
     }
     if v == q.target {
