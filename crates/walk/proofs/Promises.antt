@@ -1,4 +1,4 @@
--- A wrong answer that the walking entry's promise shuts out, whatever the network: a distance that no walk has.
+-- A row of walking distances is one content, and a wrong answer that the walking entry's promise shuts out, whatever the network: a distance that no walk has.
 use Prim.Native.Nat.{ℕ, _<_}
 use mathlib.Core.Path.{_≡_}
 use mathlib.Core.Logic.{_≢_, inl, inr}
@@ -9,6 +9,12 @@ use Rattle.rules.specs.Walks.{Walk, noDistance}
 use Rattle.rules.specs.Answers.{Walked}
 use Rattle.rules.specs.declared.Verdict.{Verdict}
 use Rattle.rules.specs.declared.Verdict.the-variants.{Accepted}
+use Rattle.rules.proofs.WalkLaws.{holds-distance-unique}
+use Rattle.rules.proofs.RoomLaws.{kept-unique}
+use Rattle.walk.specs.Row.{Row}
+
+pub row-unique : {network : List ℕ} {start : ℕ} {before a b : List ℕ} → Row network start before a → Row network start before b → a ≡ b
+row-unique p q = kept-unique (p .kept) (q .kept) (λ v h. holds-distance-unique (p .holds v h) (q .holds v h))
 
 -- Every distance but none is the sum of a walk.
 pub distance-walked : {network : List ℕ} {start : ℕ} {before after : List ℕ} {answer : Verdict} → Walked network start before after answer → answer ≡ Accepted → (v : ℕ) → v < nodeCount network → getD after v 0 ≢ noDistance → (links : List ℕ) × Walk network start v links (getD after v 0)
