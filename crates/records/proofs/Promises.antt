@@ -2,6 +2,7 @@
 use Prim.Native.Nat.{ℕ, _+_}
 use native.Mathlib.Omega.{arith}
 use mathlib.Core.Path.{_≡_, refl, sym, _∙_, ap}
+use mathlib.Core.Logic.{_≢_}
 use mathlib.Core.List.{List, [], _∷_}
 use lib.ListN.{getD, set}
 use denote.Ref.{RefT}
@@ -66,13 +67,13 @@ not-with-a-stray-rider e =
     let node : _≡_ {A = ℕ} 4 0 = ap (λ (r : RequestRead). getD (r .request .nodes) 1 0) (e ∙ request-read) in
     omega arith
 
--- ---- wrong answers for link 2 of the town, in the block and at the place of a record
+-- ---- wrong answers for a link: other memory than the record's; and, for link 2 of the town, a wrong place
+pub not-a-copy : {network part : RefT (List ℕ)} (k : ℕ) → part .ptr .0 ≢ network .ptr .0 → LinkPart network k part → ⊥
+not-a-copy k other so = other (so .memory)
+
 module _ (block place name : ℕ) where
   abbrev pub whole : RefT (List ℕ)
   whole = record { ptr = (block, place); name = name; now = town }
-
-  pub not-a-copy : (part : RefT (List ℕ)) → LinkPart whole 2 part → part .ptr .0 ≡ block + 1 → ⊥
-  not-a-copy part so e = omega (arith, so .memory)
 
   pub not-the-next-link : (part : RefT (List ℕ)) → LinkPart whole 2 part → part .ptr .1 ≡ place + 33 → ⊥
   unfolding networkOf networkVerdict networkChecks openingChecks sizeChecks number firstOf each
