@@ -4,7 +4,7 @@ use records::inner::from;
 use records::inner::link_count;
 use records::inner::to;
 use rules::CLOSED;
-use rules::MOST_LINKS;
+use rules::LONGEST_ROUTE;
 use rules::Request;
 use rules::Verdict;
 use rules::refused;
@@ -29,7 +29,7 @@ pub fn route_verdict(network: &[u8], q: Request, route: &[u16]) -> Verdict
     requires { ⌜ SoundNetwork (now network) ⌝ }
     ensures { λ r. ⌜ r ≡ firstOf (routeChecks (now (network .entry)) q (now (route .entry))) ⌝ }
 {
-    if MOST_LINKS < route.len() {
+    if LONGEST_ROUTE < route.len() {
         return refused(32, 0);
     }
     let mut node = q.source;

@@ -13,7 +13,7 @@ pub const NO_FINISH: u64 = 18446744073709551615;
 pub const CLOSED: u64 = 65535;
 
 // How many links a route that is priced may have.
-pub const MOST_LINKS: usize = 4095;
+pub const LONGEST_ROUTE: usize = 4095;
 
 // A refusal: document 01's number, and the place it names (0 where it names none).
 pub struct Refusal {

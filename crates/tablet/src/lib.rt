@@ -4,7 +4,7 @@ mod route;
 use price::inner::price_route;
 use records::read_request;
 use route::decode;
-use rules::MOST_LINKS;
+use rules::LONGEST_ROUTE;
 use rules::Priced;
 use rules::Refusal;
 use rules::Verdict;
@@ -42,13 +42,13 @@ fn tablet_answer(network: &[u8], request: &[u8], route: &[u8]) -> Priced
         });
     }
     let count = route.len() / 2;
-    if MOST_LINKS < count {
+    if LONGEST_ROUTE < count {
         return Priced::Refused(Refusal {
             number: 32,
             place: 0,
         });
     }
-    let mut links = [0u16; MOST_LINKS];
+    let mut links = [0u16; LONGEST_ROUTE];
     decode(route, &mut links, count);
     let priced = price_route(network, read.request, &links[0..count]);
     priced.answer
