@@ -18,8 +18,8 @@ use Rattle.rules.proofs.SoundRequestLaws.{records-sound, value-sound}
 use Rattle.finish.proofs.Bounds.{least-holds, unpacks}
 use Rattle.right.proofs.Reading.{reading-start}
 use Rattle.cases.proofs.Tests.{Says, passes}
-use Rattle.cases.proofs.Certificate.{tableTest, priceTest, accepts, outcomeTest, caseTest, certified, pricedAt}
-use Rattle.cases.specs.Cases.{Outcome, plan, none, Case, asked, distanceAt, Right, Holds, Row}
+use Rattle.cases.proofs.Certificate.{tableTest, priceTest, accepts, resultTest, caseTest, certified, pricedAt}
+use Rattle.cases.specs.Cases.{Result, plan, none, Case, asked, distanceAt, Right, Holds, Row}
 use Rattle.cases.proofs.TestLaws.{and-both, decides}
 use Rattle.cases.proofs.DistanceLaws.{distances-hold}
 use Rattle.cases.proofs.MoveLaws.{Walking}
@@ -34,10 +34,10 @@ module _ {network : List ℕ} {q : Request} {D T : ℕ → ℕ → ℕ} (sound :
   values-hold : (R v : ℕ) → R < 2 ^ q .count → v < nodeCount network → HoldsFinish network q R v (T R v)
   values-hold R v small h = least-holds sound value small h (tabled sound value walking tested R v small h)
 
-  outcome-right : (outcome : Outcome) → Says (outcomeTest network q D T outcome) → Right network q outcome
-  outcome-right (plan cost steps) ((finite, costs), read) =
+  result-right : (result : Result) → Says (resultTest network q D T result) → Right network q result
+  result-right (plan cost steps) ((finite, costs), read) =
       rw (← costs) (reads sound value walking tested steps (reading-start sound value (tabled sound value walking tested) finite) read)
-  outcome-right none e =
+  result-right none e =
       let small : allRiders q < 2 ^ q .count = omega (arith, pow-pos (q .count)) in
       elim (values-hold (allRiders q) (q .source) small (value .starts)) [
         | inl f ↦ absurd (omega (arith, e, unpacks sound value small (value .starts) (f .best) (f .packs) .below))
@@ -49,7 +49,7 @@ unfolding certified
 holds c e =
     let (read, rest) = and-both (accepts (requestVerdict (c .network) (c .request))) (passes (caseTest c)) .0 e in
     let accepted = accepts-true _ read in
-    let ((distanceSize, tableSize), (walks, (table, outcome))) = decides (caseTest c) .0 rest in
+    let ((distanceSize, tableSize), (walks, (table, result))) = decides (caseTest c) .0 rest in
     let (sound, request) = records-sound (c .network) (c .request) accepted in
     let value = value-sound (nodeCount (c .network)) (c .request) request in
     let walking : Walking (c .network) (asked c) (distanceAt c) = λ j v h g. distances-hold sound (walks j h) g in
@@ -59,7 +59,7 @@ holds c e =
       tableSize = tableSize;
       distances = walking;
       table = values-hold sound value walking table;
-      outcome = outcome-right sound value walking table (c .outcome) outcome;
+      result = result-right sound value walking table (c .result) result;
     }
 
 -- a whole table at once

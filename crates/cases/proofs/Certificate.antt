@@ -17,7 +17,7 @@ use Rattle.rules.specs.declared.Verdict.{Verdict}
 use Rattle.rules.specs.declared.Verdict.the-variants.{Accepted, Refused}
 use Rattle.finish.specs.Packed.{packedStep}
 use Rattle.right.specs.Reading.{planValue}
-use Rattle.cases.specs.Cases.{Outcome, plan, none, Case, asked, distanceAt, valueAt}
+use Rattle.cases.specs.Cases.{Result, plan, none, Case, asked, distanceAt, valueAt}
 use Rattle.cases.proofs.Tests.{Test, atMost, below, same, both, either, given, each, some, allBelow, anyBelow, passes}
 
 -- ---- walking distances from a start: d v is the one to v
@@ -142,21 +142,21 @@ accepts Accepted = true
 accepts (Refused r) = false
 
 module _ (network : List ℕ) (q : Request) (D T : ℕ → ℕ → ℕ) where
-  abbrev pub outcomeTest : Outcome → Test
-  outcomeTest (plan cost steps) =
+  abbrev pub resultTest : Result → Test
+  resultTest (plan cost steps) =
       both (both (below (planValue q T) noFinish) (same (planValue q T / 4096) cost))
       (readsTest network q D T (allRiders q) (q .source) steps)
-  outcomeTest none = same (planValue q T) noFinish
+  resultTest none = same (planValue q T) noFinish
 
-  abbrev pub rulesTest : Outcome → Test
-  rulesTest outcome =
+  abbrev pub rulesTest : Result → Test
+  rulesTest result =
       both (each (q .count) (λ j. distancesTest network (riderNodeOf q j) (D j)))
-      (both (tableTest network q D T) (outcomeTest outcome))
+      (both (tableTest network q D T) (resultTest result))
 
 abbrev pub caseTest : Case → Test
 caseTest c =
     both (both (same (length (c .distances)) (distancePlaces (nodeCount (c .network)) (asked c .count))) (same (length (c .table)) (tablePlaces (nodeCount (c .network)) (asked c .count))))
-    (rulesTest (c .network) (asked c) (distanceAt c) (valueAt c) (c .outcome))
+    (rulesTest (c .network) (asked c) (distanceAt c) (valueAt c) (c .result))
 
 unfoldable pub certified : Case → Bool
 unfolding firstOf checks number openingChecks sizeChecks networkChecks countChecks nodeChecks weightChecks requestChecks requestVerdict sevenPlaces requestValue allBelow anyBelow passes readsTest

@@ -8,10 +8,8 @@ use Rattle.rules.specs.Numbers.{number}
 use Rattle.rules.specs.Request.{requestValue}
 use Rattle.rules.specs.Routes.{Price}
 use Rattle.rules.specs.Rooms.{HoldsFinish}
-use Rattle.rules.specs.Answers.{Lent, Searched}
+use Rattle.rules.specs.Answers.{Outcome, gives, Lent, Searched}
 use Rattle.rules.specs.Town.{town, caseA}
-use Rattle.rules.specs.declared.Planned.{Planned}
-use Rattle.rules.specs.declared.Planned.the-variants.{Plan as Found}
 use Rattle.cases.specs.Cases.{asked}
 use Rattle.cases.specs.TownRows.{rowA, rowD}
 use Rattle.cases.specs.Searches.{Roomy, filled}
@@ -34,7 +32,7 @@ unfolding number requestValue
 place-3 = town-holds 0 .table 0 3 (omega arith) (omega arith)
 
 -- So a search of case A leaves them there, beside its answer and its steps.
-pub searched-A : {before after : Lent} {answer : Planned} → Roomy rowA before → Searched town caseA before after answer → (answer ≡ Found 8 3) × (getD (after .table) 5 0 ≡ 32771) × (getD (after .table) 1 0 ≡ 12289) × (getD (after .table) 3 0 ≡ 0) × (take 3 (after .steps) ≡ 8 ∷ 0 ∷ 9 ∷ [])
+pub searched-A : {before after : Lent} {answer : Outcome} → Roomy rowA before → Searched town caseA before after answer → (answer ≡ gives (8 ∷ 3 ∷ [])) × (getD (after .table) 5 0 ≡ 32771) × (getD (after .table) 1 0 ≡ 12289) × (getD (after .table) 3 0 ≡ 0) × (take 3 (after .steps) ≡ 8 ∷ 0 ∷ 9 ∷ [])
 searched-A {before} {after} roomy s =
     let (rooms, answer) = searched-case (town-holds 0) roomy s in
     (answer, place 5 rooms, place 1 rooms, place 3 rooms, ap (λ (l : Lent). take 3 (l .steps)) rooms)

@@ -16,16 +16,14 @@ use Rattle.rules.specs.Network.{nodeCount}
 use Rattle.rules.specs.Request.{requestValue, requestVerdict, recordChecks}
 use Rattle.rules.specs.Plans.{allRiders}
 use Rattle.rules.specs.Rooms.{Kept, Distances, Table}
-use Rattle.rules.specs.Answers.{Lent, searchChecks, Searched, refused, hopeless, planned}
-use Rattle.rules.specs.declared.Planned.{Planned}
-use Rattle.rules.specs.declared.Planned.the-variants.{Plan as Found}
+use Rattle.rules.specs.Answers.{Outcome, gives, Lent, searchChecks, Searched, refused, hopeless, planned}
 use Rattle.rules.specs.declared.Verdict.the-variants.{Accepted}
 use Rattle.rules.proofs.Order.{front-passed, accepted-front}
 use Rattle.rules.proofs.SoundRequestLaws.{records-sound, value-sound}
 use Rattle.rules.proofs.PlanLaws.{holds-finish-unique}
 use Rattle.rules.proofs.AnswerLaws.{searched-unique}
 use Rattle.finish.proofs.Bounds.{unpacks}
-use Rattle.cases.specs.Cases.{Outcome, plan, none, Case, asked, Right, Holds}
+use Rattle.cases.specs.Cases.{Result, plan, none, Case, asked, Right, Holds}
 use Rattle.cases.specs.Searches.{answerOf, stepsOf, Roomy, zeros, over, filled, SearchedCase, Fails, Told}
 
 -- place i of row j is below rows times places
@@ -67,60 +65,60 @@ module _ {c : Case} (holds : Holds c) {before : Lent} (roomy : Roomy c before) w
         kept = over-kept (c .table) (before .table) (holds .tableSize) (roomy .table);
       }
 
-  ends : (o : Outcome) {after : Lent} → Right (c .network) (asked c) o → after .distances ≡ filled c before .distances → after .table ≡ filled c before .table → after .steps ≡ over (stepsOf o) (before .steps) → SearchedCase c before after (answerOf o)
+  ends : (o : Result) {after : Lent} → Right (c .network) (asked c) o → after .distances ≡ filled c before .distances → after .table ≡ filled c before .table → after .steps ≡ over (stepsOf o) (before .steps) → SearchedCase c before after (answerOf o)
   ends (plan cost steps) right d t s = planned steps cost room-accepted (rw d distances-filled) (rw t table-filled) right refl s
   ends none right d t s = hopeless room-accepted (rw d distances-filled) (rw t table-filled) right refl s
 
   -- A search of the case can end as the case says,
-  pub case-search : SearchedCase c before (filled c before) (answerOf (c .outcome))
-  case-search = ends (c .outcome) (holds .outcome) refl refl refl
+  pub case-search : SearchedCase c before (filled c before) (answerOf (c .result))
+  case-search = ends (c .result) (holds .result) refl refl refl
 
   -- and in no other way.
-  pub searched-case : {after : Lent} {answer : Planned} → SearchedCase c before after answer → (after ≡ filled c before) × (answer ≡ answerOf (c .outcome))
+  pub searched-case : {after : Lent} {answer : Outcome} → SearchedCase c before after answer → (after ≡ filled c before) × (answer ≡ answerOf (c .result))
   searched-case s = searched-unique (c .request) s case-search
 
--- whether two outcomes are the same
+-- whether two results are the same
 unfoldable pub sameSteps : List ℕ → List ℕ → Bool
 sameSteps [] [] = true
 sameSteps [] (y ∷ ys) = false
 sameSteps (x ∷ xs) [] = false
 sameSteps (x ∷ xs) (y ∷ ys) = eqb x y && sameSteps xs ys
 
-unfoldable pub sameOutcome : Outcome → Outcome → Bool
+unfoldable pub sameResult : Result → Result → Bool
 unfolding sameSteps
-sameOutcome (plan c xs) (plan d ys) = sameSteps xs ys && eqb c d
-sameOutcome (plan c xs) none = false
-sameOutcome none (plan d ys) = false
-sameOutcome none none = true
+sameResult (plan c xs) (plan d ys) = sameSteps xs ys && eqb c d
+sameResult (plan c xs) none = false
+sameResult none (plan d ys) = false
+sameResult none none = true
 
 same-steps : (xs : List ℕ) → sameSteps xs xs ≡ true
 unfolding sameSteps
 same-steps [] = refl
 same-steps (x ∷ xs) = rw (eq-eqb x x refl) (same-steps xs)
 
-same-outcome : (o : Outcome) → sameOutcome o o ≡ true
-unfolding sameOutcome
-same-outcome (plan cost steps) = simp (same-steps steps, eq-eqb cost cost refl)
-same-outcome none = refl
+same-result : (o : Result) → sameResult o o ≡ true
+unfolding sameResult
+same-result (plan cost steps) = simp (same-steps steps, eq-eqb cost cost refl)
+same-result none = refl
 
--- An answer and the steps written with it tell the outcome.
-outcome-told : (a b : Outcome) (room : List ℕ) → answerOf a ≡ answerOf b → over (stepsOf a) room ≡ over (stepsOf b) room → a ≡ b
-outcome-told (plan c xs) (plan d ys) room e f =
+-- An answer and the steps written with it tell the result.
+result-told : (a b : Result) (room : List ℕ) → answerOf a ≡ answerOf b → over (stepsOf a) room ≡ over (stepsOf b) room → a ≡ b
+result-told (plan c xs) (plan d ys) room e f =
     let size : length xs ≡ length ys = cc in
     let steps : xs ≡ ys = sym (take-append-seam xs (drop (length xs) room)) ∙ ap (take (length xs)) f ∙ rw size (take-append-seam ys (drop (length ys) room)) in
     cc
-outcome-told (plan c xs) none room e f = let z : _≡_ {A = ℕ} 0 1 = cc in absurd (omega arith)
-outcome-told none (plan d ys) room e f = let z : _≡_ {A = ℕ} 0 1 = cc in absurd (omega arith)
-outcome-told none none room e f = refl
+result-told (plan c xs) none room e f = let z : _≡_ {A = ℕ} 0 1 = cc in absurd (omega arith)
+result-told none (plan d ys) room e f = let z : _≡_ {A = ℕ} 0 1 = cc in absurd (omega arith)
+result-told none none room e f = refl
 
-pub fails : {c : Case} (wrong : Outcome) → Holds c → sameOutcome wrong (c .outcome) ≡ false → Fails c wrong
+pub fails : {c : Case} (wrong : Result) → Holds c → sameResult wrong (c .result) ≡ false → Fails c wrong
 fails {c} wrong holds differ before after roomy s written =
     let (rooms, answer) = searched-case holds roomy s in
-    let same = outcome-told wrong (c .outcome) (before .steps) answer (sym written ∙ ap (λ (l : Lent). l .steps) rooms) in
-    false≢true (sym differ ∙ ap (λ (o : Outcome). sameOutcome o (c .outcome)) same ∙ same-outcome (c .outcome))
+    let same = result-told wrong (c .result) (before .steps) answer (sym written ∙ ap (λ (l : Lent). l .steps) rooms) in
+    false≢true (sym differ ∙ ap (λ (o : Result). sameResult o (c .result)) same ∙ same-result (c .result))
 
 -- A plan's cost and step count are told by the table, whatever the input.
-pub count-told : (network request : List ℕ) {before after : Lent} {answer : Planned} {cost count : ℕ} → answer ≡ Found cost count → Searched network request before after answer → Told network request before after cost count
+pub count-told : (network request : List ℕ) {before after : Lent} {answer : Outcome} {cost count : ℕ} → answer ≡ gives (cost ∷ count ∷ []) → Searched network request before after answer → Told network request before after cost count
 unfolding requestVerdict
 count-told network request e (refused r v a same) = let z : _≡_ {A = ℕ} 0 1 = cc in absurd (omega arith)
 count-told network request e (hopeless v d t n a same) = let z : _≡_ {A = ℕ} 0 1 = cc in absurd (omega arith)

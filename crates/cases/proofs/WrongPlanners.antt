@@ -9,33 +9,30 @@ use Rattle.rules.specs.Numbers.{number}
 use Rattle.rules.specs.Request.{requestValue}
 use Rattle.rules.specs.Routes.{nodeAt, Price}
 use Rattle.rules.specs.Plans.{RightPlan}
-use Rattle.rules.specs.Answers.{Lent, PricedRoute, refused, stranded, priced}
-use Rattle.rules.specs.declared.Refusal.{Refusal}
-use Rattle.rules.specs.declared.Priced.the-variants.{Price as Costs}
-use Rattle.rules.specs.declared.Planned.the-variants.{Plan as Found, Refused as NotPlanned}
+use Rattle.rules.specs.Answers.{gives, refuses, Lent, PricedRoute, refused, stranded, priced}
 use Rattle.rules.proofs.PriceLaws.{price-unique}
 use Rattle.rules.proofs.PlanLaws.{right-plan-unique}
 use Rattle.right.specs.Steps.{drivesOf}
 use Rattle.cases.specs.Cases.{plan, none, asked}
-use Rattle.cases.specs.Searches.{Roomy, zeros, SearchedCase, Fails, Planner, resultAt, Answers, Keeps, NoNodeTwice, EndsAtTarget}
+use Rattle.cases.specs.Searches.{Roomy, zeros, SearchedCase, Fails, Planner, replyAt, Answers, Keeps, NoNodeTwice, EndsAtTarget}
 use Rattle.cases.specs.TownRows.{rowA, rowB, rowC, rowF, rowJ}
 use Rattle.cases.specs.OwnRows.{beyondTarget, twoLinks, nearTwice, oneForTwo, offTheRoad, wideCosts, closedWalk, wallOpened}
 use Rattle.cases.proofs.Certificate.{pricedAt}
 use Rattle.cases.proofs.CaseLaws.{case-priced}
-use Rattle.cases.proofs.SearchLaws.{zeros-roomy, searched-case, sameOutcome, fails}
+use Rattle.cases.proofs.SearchLaws.{zeros-roomy, searched-case, sameResult, fails}
 use Rattle.cases.proofs.Tables.{town-holds, own-holds}
 
 -- ---- the planners that document 01 has the promises tried on, whatever they answer at other inputs
 module _ (p : Planner) where
   -- One that refuses everything, at case A.
-  pub refuses-everything : (r : Refusal) (before : Lent) → Roomy rowA before → Answers p rowA before (NotPlanned r) → Keeps p rowA before → ⊥
-  refuses-everything r before roomy e keeps =
+  pub refuses-everything : (number place : ℕ) (before : Lent) → Roomy rowA before → Answers p rowA before (refuses number place) → Keeps p rowA before → ⊥
+  refuses-everything number place before roomy e keeps =
       let right = searched-case (town-holds 0) roomy keeps .1 in
       let z : _≡_ {A = ℕ} 0 1 = cc in
       omega arith
 
   -- One that gives sound records a fixed plan, at case A or at case B,
-  pub fixed-plan : (cost count : ℕ) (a b : Lent) → Roomy rowA a → Roomy rowB b → Answers p rowA a (Found cost count) → Answers p rowB b (Found cost count) → Keeps p rowA a → Keeps p rowB b → ⊥
+  pub fixed-plan : (cost count : ℕ) (a b : Lent) → Roomy rowA a → Roomy rowB b → Answers p rowA a (gives (cost ∷ count ∷ [])) → Answers p rowB b (gives (cost ∷ count ∷ [])) → Keeps p rowA a → Keeps p rowB b → ⊥
   fixed-plan cost count a b roomy wide e f keeps kept =
       let right = searched-case (town-holds 0) roomy keeps .1 in
       let other = searched-case (town-holds 1) wide kept .1 in
@@ -43,14 +40,14 @@ module _ (p : Planner) where
       omega arith
 
   -- and whichever plan it is, at case F.
-  pub fixed-plan-at-F : (cost count : ℕ) (before : Lent) → Roomy rowF before → Answers p rowF before (Found cost count) → Keeps p rowF before → ⊥
+  pub fixed-plan-at-F : (cost count : ℕ) (before : Lent) → Roomy rowF before → Answers p rowF before (gives (cost ∷ count ∷ [])) → Keeps p rowF before → ⊥
   fixed-plan-at-F cost count before roomy e keeps =
       let right = searched-case (town-holds 5) roomy keeps .1 in
       let z : _≡_ {A = ℕ} 0 1 = cc in
       omega arith
 
   -- One that writes nothing, at case A: place 5 of the table stays 0.
-  pub writes-nothing : resultAt p rowA (zeros rowA) .after ≡ zeros rowA → Keeps p rowA (zeros rowA) → ⊥
+  pub writes-nothing : replyAt p rowA (zeros rowA) .after ≡ zeros rowA → Keeps p rowA (zeros rowA) → ⊥
   unfolding number requestValue
   writes-nothing kept keeps =
       let right = searched-case (town-holds 0) (zeros-roomy rowA) keeps .0 in
@@ -59,7 +56,7 @@ module _ (p : Planner) where
 
 -- One that weighs rider 0 and only lists the others, at case J: it takes the plan of case A and meets rider 1 beside rider 0, whatever it says of the cost.
 pub weighs-rider-0 : (cost : ℕ) → Fails rowJ (plan cost (8 ∷ 0 ∷ 1 ∷ 9 ∷ []))
-unfolding sameOutcome
+unfolding sameResult
 weighs-rider-0 cost = fails (plan cost (8 ∷ 0 ∷ 1 ∷ 9 ∷ [])) (town-holds 9) refl
 
 -- That plan costs 12, where the right one costs 11.
@@ -68,7 +65,7 @@ unfolding pricedAt
 weighs-rider-0-price = case-priced (town-holds 9) (0 ∷ 1 ∷ []) (1 ∷ 1 ∷ []) refl
 
 -- So pricing that weighs rider 1 as rider 0, for 10, breaks its promise.
-pub one-weight-for-all : {before after : List ℕ} → PricedRoute (rowJ .network) (rowJ .request) (0 ∷ 1 ∷ []) before after (Costs 10) → ⊥
+pub one-weight-for-all : {before after : List ℕ} → PricedRoute (rowJ .network) (rowJ .request) (0 ∷ 1 ∷ []) before after (gives (10 ∷ [])) → ⊥
 unfolding number requestValue
 one-weight-for-all so = elim (so .pricing) [
   | refused r v e m ↦ (let z : _≡_ {A = ℕ} 0 1 = cc in omega arith)
@@ -81,20 +78,20 @@ one-weight-for-all so = elim (so .pricing) [
 ]
 
 -- One whose step count is invented, at case A. Of every input `count-told` says what it must be.
-pub invents-the-count : (cost count : ℕ) → count ≢ 3 → (before after : Lent) → Roomy rowA before → SearchedCase rowA before after (Found cost count) → ⊥
+pub invents-the-count : (cost count : ℕ) → count ≢ 3 → (before after : Lent) → Roomy rowA before → SearchedCase rowA before after (gives (cost ∷ count ∷ [])) → ⊥
 invents-the-count cost count other before after roomy s =
     let right = searched-case (town-holds 0) roomy s .1 in
     other (cc)
 
 -- ---- wrong plans seen on desks
 -- Driving a walkers' link at its walking cost, through the wall. It answers as is right where the wall is open, by the last of our own cases.
-pub drives-through-the-wall : Fails rowB (wallOpened .outcome)
-unfolding sameOutcome
-drives-through-the-wall = fails (wallOpened .outcome) (town-holds 1) refl
+pub drives-through-the-wall : Fails rowB (wallOpened .result)
+unfolding sameResult
+drives-through-the-wall = fails (wallOpened .result) (town-holds 1) refl
 
 -- Passing every rider's node, by the shortcut of 000's Lemma 4.4: it costs 11 in case C.
 pub passes-every-rider : Fails rowC (plan 11 (10 ∷ 15 ∷ 0 ∷ 13 ∷ 11 ∷ []))
-unfolding sameOutcome
+unfolding sameResult
 passes-every-rider = fails (plan 11 (10 ∷ 15 ∷ 0 ∷ 13 ∷ 11 ∷ [])) (town-holds 2) refl
 
 pub passes-every-rider-price : Price (rowC .network) (asked rowC) (2 ∷ 7 ∷ 5 ∷ 3 ∷ []) (2 ∷ []) 11
@@ -103,11 +100,11 @@ passes-every-rider-price = case-priced (town-holds 2) (2 ∷ 7 ∷ 5 ∷ 3 ∷ [
 
 -- Stopping when the target is first reached: in case B with the rider left behind, or met on the way for 26.
 pub stops-without-the-rider : (cost : ℕ) → Fails rowB (plan cost (8 ∷ 9 ∷ []))
-unfolding sameOutcome
+unfolding sameResult
 stops-without-the-rider cost = fails (plan cost (8 ∷ 9 ∷ [])) (town-holds 1) refl
 
 pub stops-with-the-rider : Fails rowB (plan 26 (8 ∷ 0 ∷ 9 ∷ []))
-unfolding sameOutcome
+unfolding sameResult
 stops-with-the-rider = fails (plan 26 (8 ∷ 0 ∷ 9 ∷ [])) (town-holds 1) refl
 
 pub stops-with-the-rider-price : Price (rowB .network) (asked rowB) (0 ∷ 1 ∷ []) (1 ∷ []) 26
@@ -118,53 +115,53 @@ stops-with-the-rider-price = case-priced (town-holds 1) (0 ∷ 1 ∷ []) (1 ∷ 
 pub forbids-repeated-nodes-B : {steps : List ℕ} {cost : ℕ} → RightPlan (rowB .network) (asked rowB) steps cost → NoNodeTwice rowB (drivesOf steps) → ⊥
 unfolding number nodeAt drivesOf
 forbids-repeated-nodes-B right once =
-    let same = right-plan-unique right (town-holds 1 .outcome) .0 in
+    let same = right-plan-unique right (town-holds 1 .result) .0 in
     (rw same at once) 1 3 (omega arith) (omega arith) refl
 
 pub forbids-repeated-nodes-J : {steps : List ℕ} {cost : ℕ} → RightPlan (rowJ .network) (asked rowJ) steps cost → NoNodeTwice rowJ (drivesOf steps) → ⊥
 unfolding number nodeAt drivesOf
 forbids-repeated-nodes-J right once =
-    let same = right-plan-unique right (town-holds 9 .outcome) .0 in
+    let same = right-plan-unique right (town-holds 9 .result) .0 in
     (rw same at once) 1 3 (omega arith) (omega arith) refl
 
 -- Calling 24 because the bus can't reach a rider's own node.
 pub gives-the-rider-up : Fails offTheRoad none
-unfolding sameOutcome
+unfolding sameResult
 gives-the-rider-up = fails none (own-holds 4) refl
 
 -- ---- planners that get all of A to K right
 -- Never driving on from the target: with no plan, or with one that ends where it first reaches the target.
 pub no-way-beyond : Fails beyondTarget none
-unfolding sameOutcome
+unfolding sameResult
 no-way-beyond = fails none (own-holds 0) refl
 
 pub never-drives-on : {steps : List ℕ} {cost : ℕ} → RightPlan (beyondTarget .network) (asked beyondTarget) steps cost → EndsAtTarget beyondTarget (drivesOf steps) → ⊥
 unfolding number requestValue nodeAt drivesOf
 never-drives-on right ends =
-    let same = right-plan-unique right (own-holds 0 .outcome) .0 in
+    let same = right-plan-unique right (own-holds 0 .result) .0 in
     (rw same at ends) 1 (omega arith) refl
 
 -- Taking the highest link first.
 pub highest-link-first : Fails twoLinks (plan 1 (9 ∷ []))
-unfolding sameOutcome
+unfolding sameResult
 highest-link-first = fails (plan 1 (9 ∷ [])) (own-holds 1) refl
 
 -- Driving before meeting.
 pub drives-before-it-meets : Fails nearTwice (plan 2 (8 ∷ 0 ∷ []))
-unfolding sameOutcome
+unfolding sameResult
 drives-before-it-meets = fails (plan 2 (8 ∷ 0 ∷ [])) (own-holds 2) refl
 
 -- Ignoring fewest steps.
 pub ignores-fewest-steps : Fails oneForTwo (plan 2 (8 ∷ 9 ∷ []))
-unfolding sameOutcome
+unfolding sameResult
 ignores-fewest-steps = fails (plan 2 (8 ∷ 9 ∷ [])) (own-holds 3) refl
 
 -- Keeping a cost in 16 bits: twice 50,000 becomes 34,464, or 65,535, and either way the one link seems cheaper.
 pub keeps-16-bits : (cost : ℕ) → Fails wideCosts (plan cost (8 ∷ []))
-unfolding sameOutcome
+unfolding sameResult
 keeps-16-bits cost = fails (plan cost (8 ∷ [])) (own-holds 5) refl
 
 -- Walking a closed link at 65,535.
 pub walks-closed-links : Fails closedWalk (plan 65535 (0 ∷ []))
-unfolding sameOutcome
+unfolding sameResult
 walks-closed-links = fails (plan 65535 (0 ∷ [])) (own-holds 6) refl

@@ -12,15 +12,15 @@ use Rattle.rules.specs.declared.Request.{Request}
 use Rattle.rules.specs.declared.Verdict.the-variants.{Accepted}
 
 -- a plan with its cost, or 24
-pub data Outcome : Type 0 where
-  plan : ℕ → List ℕ → Outcome
-  none : Outcome
+pub data Result : Type 0 where
+  plan : ℕ → List ℕ → Result
+  none : Result
 
--- The records, the outcome, and the places of the distances and of the work table that the search fills.
+-- The records, the result, and the places of the distances and of the work table that the search fills.
 pub record Case : Type 0 where
   pub network : List ℕ
   pub request : List ℕ
-  pub outcome : Outcome
+  pub result : Result
   pub distances : List ℕ
   pub table : List ℕ
 
@@ -38,19 +38,19 @@ valueAt c R v = getD (c .table) (R * nodeCount (c .network) + v) 0
 abbrev pub best : ℕ → ℕ → ℕ
 best cost steps = 4096 * cost + steps
 
--- what the rules say of an outcome
-abbrev pub Right : List ℕ → Request → Outcome → Type 0
+-- what the rules say of a result
+abbrev pub Right : List ℕ → Request → Result → Type 0
 Right network q (plan cost steps) = RightPlan network q steps cost
 Right network q none = NoPlan network q
 
--- The claim of a case: its records are sound, its outcome is right, and so is every place of its distances and its table.
+-- The claim of a case: its records are sound, its result is right, and so is every place of its distances and its table.
 pub record Holds (c : Case) : Type 0 where
   pub accepted : requestVerdict (c .network) (c .request) ≡ Accepted
   pub distanceSize : length (c .distances) ≡ distancePlaces (nodeCount (c .network)) (asked c .count)
   pub tableSize : length (c .table) ≡ tablePlaces (nodeCount (c .network)) (asked c .count)
   pub distances : (j v : ℕ) → j < asked c .count → v < nodeCount (c .network) → HoldsDistance (c .network) (riderNodeOf (asked c) j) v (distanceAt c j v)
   pub table : (R v : ℕ) → R < 2 ^ asked c .count → v < nodeCount (c .network) → HoldsFinish (c .network) (asked c) R v (valueAt c R v)
-  pub outcome : Right (c .network) (asked c) (c .outcome)
+  pub result : Right (c .network) (asked c) (c .result)
 
 -- a claim of the case at place i of a table, if there is one
 abbrev pub Row : (Case → Type 0) → List Case → ℕ → Type 0

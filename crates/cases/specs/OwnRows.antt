@@ -1,4 +1,4 @@
--- Cases beside document 01's. Each but the last has an outcome that one kind of wrong planner misses which gets all of A to K right.
+-- Cases beside document 01's. Each but the last has a result that one kind of wrong planner misses which gets all of A to K right.
 use Prim.Native.Nat.{ℕ, _+_, _/_}
 use mathlib.Core.List.{List, [], _∷_, _++_}
 use lib.ListN.{length}
@@ -18,7 +18,7 @@ beyondTarget =
     record {
       network = network 3 (link 0 1 1 closed ++ link 1 2 1 closed ++ link 2 1 1 closed);
       request = request 0 1 1 (rider 2 1);
-      outcome = plan 3 (8 ∷ 9 ∷ 0 ∷ 10 ∷ []);
+      result = plan 3 (8 ∷ 9 ∷ 0 ∷ 10 ∷ []);
       distances = noDistance ∷ noDistance ∷ 0 ∷ [];
       table = best 1 1 ∷ 0 ∷ best 1 1 ∷ best 3 4 ∷ best 2 3 ∷ best 1 2 ∷ [];
     }
@@ -29,7 +29,7 @@ twoLinks =
     record {
       network = network 2 (link 0 1 1 1 ++ link 0 1 1 1);
       request = request 0 1 1 [];
-      outcome = plan 1 (8 ∷ []);
+      result = plan 1 (8 ∷ []);
       distances = [];
       table = best 1 1 ∷ 0 ∷ [];
     }
@@ -40,7 +40,7 @@ nearTwice =
     record {
       network = network 3 (link 0 1 1 closed ++ link 2 0 closed 1 ++ link 2 1 closed 1);
       request = request 0 1 1 (rider 2 1);
-      outcome = plan 2 (0 ∷ 8 ∷ []);
+      result = plan 2 (0 ∷ 8 ∷ []);
       distances = 1 ∷ 1 ∷ 0 ∷ [];
       table = best 1 1 ∷ 0 ∷ noFinish ∷ best 2 2 ∷ best 1 1 ∷ noFinish ∷ [];
     }
@@ -51,7 +51,7 @@ oneForTwo =
     record {
       network = network 3 (link 0 1 1 1 ++ link 1 2 1 1 ++ link 0 2 2 2);
       request = request 0 2 1 [];
-      outcome = plan 2 (10 ∷ []);
+      result = plan 2 (10 ∷ []);
       distances = [];
       table = best 2 1 ∷ best 1 1 ∷ 0 ∷ [];
     }
@@ -62,7 +62,7 @@ offTheRoad =
     record {
       network = network 3 (link 0 1 1 closed ++ link 2 1 closed 1);
       request = request 0 1 1 (rider 2 1);
-      outcome = plan 2 (8 ∷ 0 ∷ []);
+      result = plan 2 (8 ∷ 0 ∷ []);
       distances = noDistance ∷ 1 ∷ 0 ∷ [];
       table = best 1 1 ∷ 0 ∷ noFinish ∷ best 2 2 ∷ best 1 1 ∷ noFinish ∷ [];
     }
@@ -73,7 +73,7 @@ wideCosts =
     record {
       network = network 3 (link 0 1 50000 closed ++ link 0 2 20000 closed ++ link 2 1 20000 closed);
       request = request 0 1 2 [];
-      outcome = plan 80000 (9 ∷ 10 ∷ []);
+      result = plan 80000 (9 ∷ 10 ∷ []);
       distances = [];
       table = best 80000 2 ∷ 0 ∷ best 40000 1 ∷ [];
     }
@@ -84,7 +84,7 @@ closedWalk =
     record {
       network = network 2 (link 1 0 closed closed);
       request = request 0 0 1 (rider 1 1);
-      outcome = none;
+      result = none;
       distances = noDistance ∷ 0 ∷ [];
       table = 0 ∷ noFinish ∷ noFinish ∷ noFinish ∷ [];
     }
@@ -95,7 +95,7 @@ wallOpened =
     record {
       network = network 5 (link 0 1 3 9 ++ link 1 3 3 9 ++ link 0 2 5 closed ++ link 2 3 4 9 ++ link 4 1 2 2 ++ link 4 2 1 6 ++ link 1 4 2 2 ++ link 2 4 1 6);
       request = request 0 3 1 (rider 4 10);
-      outcome = plan 10 (8 ∷ 14 ∷ 0 ∷ 12 ∷ 9 ∷ []);
+      result = plan 10 (8 ∷ 14 ∷ 0 ∷ 12 ∷ 9 ∷ []);
       distances = noDistance ∷ 2 ∷ 6 ∷ 11 ∷ 0 ∷ [];
       table = best 6 2 ∷ best 3 1 ∷ best 4 1 ∷ 0 ∷ best 5 2 ∷ best 10 5 ∷ best 7 4 ∷ best 6 4 ∷ best 110 1 ∷ best 5 3 ∷ [];
     }

@@ -2,24 +2,21 @@
 use Prim.Native.Nat.{ℕ, _+_, _*_, _/_, _%_, _<_, _≤_}
 use mathlib.Core.Path.{_≡_}
 use mathlib.Core.Logic.{_≢_}
-use mathlib.Core.List.{List, [], _++_}
+use mathlib.Core.List.{List, [], _∷_, _++_}
 use lib.ListN.{length, getD, drop, replicate}
-use Rattle.rules.specs.Checks.{refuse}
 use Rattle.rules.specs.Network.{nodeCount}
 use Rattle.rules.specs.Request.{requestValue}
 use Rattle.rules.specs.Routes.{nodeAt}
 use Rattle.rules.specs.Plans.{allRiders}
 use Rattle.rules.specs.Rooms.{Written, distancePlaces, tablePlaces, stepPlaces}
-use Rattle.rules.specs.Answers.{Lent, Searched}
-use Rattle.rules.specs.declared.Planned.{Planned}
-use Rattle.rules.specs.declared.Planned.the-variants.{Plan as Found, Refused as NotPlanned}
-use Rattle.cases.specs.Cases.{Outcome, plan, none, Case, asked}
+use Rattle.rules.specs.Answers.{Outcome, gives, refuses, Lent, Enough, Searched}
+use Rattle.cases.specs.Cases.{Result, plan, none, Case, asked}
 
-abbrev pub answerOf : Outcome → Planned
-answerOf (plan cost steps) = Found cost (length steps)
-answerOf none = NotPlanned (refuse 24 0)
+abbrev pub answerOf : Result → Outcome
+answerOf (plan cost steps) = gives (cost ∷ length steps ∷ [])
+answerOf none = refuses 24 0
 
-abbrev pub stepsOf : Outcome → List ℕ
+abbrev pub stepsOf : Result → List ℕ
 stepsOf (plan cost steps) = steps
 stepsOf none = []
 
@@ -33,11 +30,8 @@ tableNeed c = tablePlaces (nodeCount (c .network)) (asked c .count)
 abbrev pub stepNeed : Case → ℕ
 stepNeed c = stepPlaces (nodeCount (c .network)) (asked c .count)
 
--- Rooms with so many places or more.
-pub record Roomy (c : Case) (before : Lent) : Type 0 where
-  pub distances : distanceNeed c ≤ length (before .distances)
-  pub table : tableNeed c ≤ length (before .table)
-  pub steps : stepNeed c ≤ length (before .steps)
+abbrev pub Roomy : Case → Lent → Type 0
+Roomy c before = Enough (nodeCount (c .network)) (asked c .count) before
 
 -- rooms of exactly so many places, all zero
 abbrev pub zeros : Case → Lent
@@ -57,33 +51,33 @@ filled c before =
     record {
       distances = over (c .distances) (before .distances);
       table = over (c .table) (before .table);
-      steps = over (stepsOf (c .outcome)) (before .steps);
+      steps = over (stepsOf (c .result)) (before .steps);
     }
 
-abbrev pub SearchedCase : Case → Lent → Lent → Planned → Type 0
+abbrev pub SearchedCase : Case → Lent → Lent → Outcome → Type 0
 SearchedCase c before after answer = Searched (c .network) (c .request) before after answer
 
--- No search of the case that keeps its promise ends with this outcome.
-abbrev pub Fails : Case → Outcome → Type 0
+-- No search of the case that keeps its promise ends with this result.
+abbrev pub Fails : Case → Result → Type 0
 Fails c wrong = (before after : Lent) → Roomy c before → SearchedCase c before after (answerOf wrong) → Written (stepsOf wrong) (before .steps) (after .steps) → ⊥
 
 -- What answers every search: an answer, and what it leaves in the rooms.
-pub record Result : Type 0 where
-  pub answer : Planned
+pub record Reply : Type 0 where
+  pub answer : Outcome
   pub after : Lent
 
 abbrev pub Planner : Type 0
-Planner = List ℕ → List ℕ → Lent → Result
+Planner = List ℕ → List ℕ → Lent → Reply
 
-abbrev pub resultAt : Planner → Case → Lent → Result
-resultAt p c before = p (c .network) (c .request) before
+abbrev pub replyAt : Planner → Case → Lent → Reply
+replyAt p c before = p (c .network) (c .request) before
 
-abbrev pub Answers : Planner → Case → Lent → Planned → Type 0
-Answers p c before answer = resultAt p c before .answer ≡ answer
+abbrev pub Answers : Planner → Case → Lent → Outcome → Type 0
+Answers p c before answer = replyAt p c before .answer ≡ answer
 
 -- The planner keeps the search's promise at the case.
 abbrev pub Keeps : Planner → Case → Lent → Type 0
-Keeps p c before = SearchedCase c before (resultAt p c before .after) (resultAt p c before .answer)
+Keeps p c before = SearchedCase c before (replyAt p c before .after) (replyAt p c before .answer)
 
 -- the table's place of all riders and the source
 abbrev pub planPlace : List ℕ → List ℕ → ℕ

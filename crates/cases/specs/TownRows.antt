@@ -4,11 +4,11 @@ use Prim.Native.Nat.{ℕ}
 use Rattle.rules.specs.Walks.{noDistance}
 use Rattle.rules.specs.Rooms.{noFinish}
 use Rattle.rules.specs.Town.{town, request, rider}
-use Rattle.cases.specs.Cases.{Outcome, plan, none, Case, best}
+use Rattle.cases.specs.Cases.{Result, plan, none, Case, best}
 
-abbrev inTown : List ℕ → Outcome → List ℕ → List ℕ → Case
-inTown request outcome distances table =
-    record { network = town; request = request; outcome = outcome; distances = distances; table = table }
+abbrev inTown : List ℕ → Result → List ℕ → List ℕ → Case
+inTown request result distances table =
+    record { network = town; request = request; result = result; distances = distances; table = table }
 
 -- A: rider at 4, weight 1
 abbrev pub rowA : Case

@@ -1,23 +1,20 @@
 -- What each answer's number is made of is small enough for 64 bits, and a value's number is below 2^63.
 use Prim.Native.Nat.{ℕ, _≤_}
 use native.Mathlib.Omega.{arith}
-use mathlib.Core.Path.{_≡_, sym, _∙_, ap}
-use mathlib.Core.List.{List}
+use mathlib.Core.Path.{_≡_, sym, _∙_}
+use mathlib.Core.List.{List, [], _∷_}
 use lib.ListN.{length}
 use Rattle.rules.specs.Checks.{refuse}
 use Rattle.rules.specs.Network.{nodeCount, networkVerdict, networkOf, SoundNetwork}
 use Rattle.rules.specs.Request.{recordChecks, requestVerdict, requestOf, requestValue, SoundValue}
-use Rattle.rules.specs.Answers.{Walked, refused, stranded, priced, PricedRoute, Lent, hopeless, planned, Searched}
+use Rattle.rules.specs.Answers.{Outcome, gives, refuses, Walked, refused, stranded, priced, PricedRoute, Lent, hopeless, planned, Searched}
 use Rattle.rules.specs.declared.Refusal.{Refusal}
 use Rattle.rules.specs.declared.NetworkRead.{NetworkRead}
 use Rattle.rules.specs.declared.RequestRead.{RequestRead}
 use Rattle.rules.specs.declared.Verdict.{Verdict}
 use Rattle.rules.specs.declared.Verdict.the-variants.{Accepted, Refused as NotAccepted}
-use Rattle.rules.specs.declared.Priced.{Priced}
-use Rattle.rules.specs.declared.Priced.the-variants.{Price as Costs, Refused as NotPriced}
-use Rattle.rules.specs.declared.Planned.{Planned}
-use Rattle.rules.specs.declared.Planned.the-variants.{Plan as Found, Refused as NotPlanned}
 use Rattle.rules.proofs.Order.{accepted-front}
+use Rattle.rules.proofs.AnswerLaws.{verdict-told-apart}
 use Rattle.rules.proofs.Refusals.{same-refusal, Small, network-small, records-small, search-small}
 use Rattle.rules.proofs.SoundNetworkLaws.{network-sound}
 use Rattle.rules.proofs.SoundRequestLaws.{records-sound, value-sound}
@@ -32,8 +29,9 @@ accepted-tells value told = rw told
 pub refused-tells : {verdict : Verdict} (value : ℕ) {r : Refusal} → verdict ≡ NotAccepted r → refusalNumber r ≡ verdictNumber verdict value
 refused-tells value told = rw told
 
-never : {r : Refusal} → Accepted ≡ NotAccepted r → Small 65536 r
-never e = let z : _≡_ {A = ℕ} 0 1 = cc in absurd (omega arith)
+-- a refusal with the number and the place of a small one
+same-small : (x r : Refusal) → Small 65536 x → refuses (x .number) (x .place) ≡ refuses (r .number) (r .place) → Small 65536 r
+same-small x r small e = same-refusal (Small 65536) small (verdict-told-apart (NotAccepted x) (NotAccepted r) e)
 
 -- ---- reading
 module _ (s : List ℕ) {read : NetworkRead} (is : read ≡ networkOf s) where
@@ -54,9 +52,9 @@ module _ (network s : List ℕ) {read : RequestRead} (is : read ≡ requestOf ne
   request-refusal r told = records-small 65536 (omega arith) network s .given r (rw is at told)
 
 -- ---- walking
-pub walk-refusal : {network : List ℕ} {start : ℕ} {before after : List ℕ} {answer : Verdict} → Walked network start before after answer → (r : Refusal) → answer ≡ NotAccepted r → Small 65536 r
+pub walk-refusal : {network : List ℕ} {start : ℕ} {before after : List ℕ} {answer : Outcome} → Walked network start before after answer → (r : Refusal) → answer ≡ refuses (r .number) (r .place) → Small 65536 r
 walk-refusal {network} {start} {before} walked r told =
-    walk-small network start (length before) .given r (sym (walked .answers) ∙ told)
+    walk-small network start (length before) .given r (verdict-told-apart _ (NotAccepted r) (sym (walked .answers) ∙ told))
 
 -- ---- both records, once the checks of an entry are all passed
 module _ (network request : List ℕ) where
@@ -64,61 +62,36 @@ module _ (network request : List ℕ) where
   both-sound e = let (a, b) = records-sound network request e in (a, value-sound _ request b)
 
 -- ---- pricing
-verdictPriced : Priced → Verdict
-verdictPriced (Costs price) = Accepted
-verdictPriced (NotPriced r) = NotAccepted r
-
-pub price-refusal : {network request route before after : List ℕ} {answer : Priced} → PricedRoute network request route before after answer → (r : Refusal) → answer ≡ NotPriced r → Small 65536 r
-unfolding verdictPriced requestVerdict
+pub price-refusal : {network request route before after : List ℕ} {answer : Outcome} → PricedRoute network request route before after answer → (r : Refusal) → answer ≡ refuses (r .number) (r .place) → Small 65536 r
+unfolding requestVerdict
 price-refusal {network} {request} {route} {before} so r told = elim (so .pricing) [
-  | refused x v e m ↦ same-refusal (Small 65536) (price-small network request route (length before) .given x v) (ap verdictPriced (sym e ∙ told))
+  | refused x v e m ↦ same-small x r (price-small network request route (length before) .given x v) (sym e ∙ told)
   | stranded j v h s l e m ↦ (
       let riders = both-sound network request (accepted-front (recordChecks network request) _ v) .1 .riders in
-      same-refusal (Small 65536) {x = refuse 37 j} (record { number = omega arith; place = omega arith }) (ap verdictPriced (sym e ∙ told))
+      same-small (refuse 37 j) r (record { number = omega arith; place = omega arith }) (sym e ∙ told)
       )
-  | priced p v c z e ↦ never (ap verdictPriced (sym e ∙ told))
+  | priced p v c z e ↦ (let z : _≡_ {A = ℕ} 0 1 = cc in absurd (omega arith))
 ]
 
 -- ---- the search
-verdictPlanned : Planned → Verdict
-verdictPlanned (Found cost steps) = Accepted
-verdictPlanned (NotPlanned r) = NotAccepted r
-
-costPlanned : Planned → ℕ
-costPlanned (Found cost steps) = cost
-costPlanned (NotPlanned r) = 0
-
-stepsPlanned : Planned → ℕ
-stepsPlanned (Found cost steps) = steps
-stepsPlanned (NotPlanned r) = 0
-
-module _ {network : List ℕ} (request : List ℕ) {before after : Lent} {answer : Planned} (so : Searched network request before after answer) where
-  pub plan-refusal : (r : Refusal) → answer ≡ NotPlanned r → Small 65536 r
-  unfolding verdictPlanned
+module _ {network : List ℕ} (request : List ℕ) {before after : Lent} {answer : Outcome} (so : Searched network request before after answer) where
+  pub plan-refusal : (r : Refusal) → answer ≡ refuses (r .number) (r .place) → Small 65536 r
   plan-refusal r told = elim so [
-    | refused x v e m ↦ same-refusal (Small 65536) (search-small 65536 (omega arith) network request _ _ _ .given x v) (ap verdictPlanned (sym e ∙ told))
-    | hopeless v d t n e s ↦ same-refusal (Small 65536) {x = refuse 24 0} (record { number = omega arith; place = omega arith }) (ap verdictPlanned (sym e ∙ told))
-    | planned plan cost v d t right e w ↦ never (ap verdictPlanned (sym e ∙ told))
+    | refused x v e m ↦ same-small x r (search-small 65536 (omega arith) network request _ _ _ .given x v) (sym e ∙ told)
+    | hopeless v d t n e s ↦ same-small (refuse 24 0) r (record { number = omega arith; place = omega arith }) (sym e ∙ told)
+    | planned plan cost v d t right e w ↦ (let z : _≡_ {A = ℕ} 0 1 = cc in absurd (omega arith))
   ]
 
-  pub plan-small : {cost steps : ℕ} → answer ≡ Found cost steps → (cost ≤ 50231811000) × (steps ≤ 4095)
-  unfolding costPlanned stepsPlanned requestVerdict
-  plan-small {cost} {steps} told = elim so [
-    | refused x v e m ↦ (
-        let c : 0 ≡ cost = ap costPlanned (sym e ∙ told) in
-        let s : 0 ≡ steps = ap stepsPlanned (sym e ∙ told) in
-        (omega arith, omega arith)
-        )
-    | hopeless v d t n e w ↦ (
-        let c : 0 ≡ cost = ap costPlanned (sym e ∙ told) in
-        let s : 0 ≡ steps = ap stepsPlanned (sym e ∙ told) in
-        (omega arith, omega arith)
-        )
+  pub plan-small : {cost count : ℕ} → answer ≡ gives (cost ∷ count ∷ []) → (cost ≤ 50231811000) × (count ≤ 4095)
+  unfolding requestVerdict
+  plan-small {cost} {count} told = elim so [
+    | refused x v e m ↦ (let z : _≡_ {A = ℕ} 0 1 = cc in absurd (omega arith))
+    | hopeless v d t n e w ↦ (let z : _≡_ {A = ℕ} 0 1 = cc in absurd (omega arith))
     | planned plan p v d t right e w ↦ (
         let (sound, value) = both-sound network request (accepted-front (recordChecks network request) _ v) in
         let b = right-plan-bounded sound value right in
-        let c : p ≡ cost = ap costPlanned (sym e ∙ told) in
-        let s : length plan ≡ steps = ap stepsPlanned (sym e ∙ told) in
+        let c : p ≡ cost = cc in
+        let s : length plan ≡ count = cc in
         (omega arith, omega arith)
         )
   ]

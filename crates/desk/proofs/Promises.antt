@@ -5,13 +5,13 @@ use mathlib.Core.Path.{_≡_, refl, sym, _∙_, ap}
 use mathlib.Core.List.{List}
 use Rattle.rules.specs.Network.{networkOf}
 use Rattle.rules.specs.Request.{requestOf}
-use Rattle.rules.specs.Answers.{Lent}
+use Rattle.rules.specs.Answers.{verdictOutcome, pricedOutcome, plannedOutcome, Lent}
 use Rattle.rules.specs.declared.Refusal.{Refusal}
 use Rattle.rules.specs.declared.Verdict.{Verdict}
 use Rattle.rules.specs.declared.Verdict.the-variants.{Accepted, Refused as NotAccepted}
 use Rattle.rules.specs.declared.Priced.the-variants.{Price as Costs, Refused as NotPriced}
 use Rattle.rules.specs.declared.Planned.the-variants.{Plan as Found, Refused as NotPlanned}
-use Rattle.rules.proofs.AnswerLaws.{walked-unique, priced-route-unique, searched-unique}
+use Rattle.rules.proofs.AnswerLaws.{verdict-told-apart, priced-told-apart, planned-told-apart, walked-unique, priced-route-unique, searched-unique}
 use Rattle.rules.proofs.Refusals.{Small}
 use Rattle.records.proofs.RequestLaws.{few-riders}
 use Rattle.price.proofs.Bounds.{pricing-bounded}
@@ -28,17 +28,17 @@ request-settled network s p q = p ∙ sym q
 pub walk-settled : {network : List ℕ} {start : ℕ} {before a b : List ℕ} {x y : ℕ} → WalkTold network start before a x → WalkTold network start before b y → (a ≡ b) × (x ≡ y)
 walk-settled s t =
     let (room, answer) = walked-unique (s .walked) (t .walked) in
-    (room, s .tells ∙ ap (λ (v : Verdict). verdictNumber v 0) answer ∙ sym (t .tells))
+    (room, s .tells ∙ ap (λ (v : Verdict). verdictNumber v 0) (verdict-told-apart (s .answer) (t .answer) answer) ∙ sym (t .tells))
 
 pub price-settled : {network request route before a b : List ℕ} {x y : ℕ} → PriceTold network request route before a x → PriceTold network request route before b y → (a ≡ b) × (x ≡ y)
 price-settled s t =
     let (room, answer) = priced-route-unique (s .priced) (t .priced) in
-    (room, s .tells ∙ ap pricedNumber answer ∙ sym (t .tells))
+    (room, s .tells ∙ ap pricedNumber (priced-told-apart (s .answer) (t .answer) answer) ∙ sym (t .tells))
 
 pub plan-settled : {network : List ℕ} (request : List ℕ) {before a b : Lent} {x y : ℕ} → PlanTold network request before a x → PlanTold network request before b y → (a ≡ b) × (x ≡ y)
 plan-settled request s t =
     let (rooms, answer) = searched-unique request (s .searched) (t .searched) in
-    (rooms, s .tells ∙ ap plannedNumber answer ∙ sym (t .tells))
+    (rooms, s .tells ∙ ap plannedNumber (planned-told-apart (s .answer) (t .answer) answer) ∙ sym (t .tells))
 
 -- ---- a value's number is below 2^63
 pub network-value : (s : List ℕ) {number : ℕ} → number ≡ networkNumber (networkOf s) → networkOf s .verdict ≡ Accepted → (number / 65536 ≡ networkOf s .n) × (number % 65536 ≡ networkOf s .m) × (number < 2 ^ 63)
@@ -58,12 +58,12 @@ walk-value so told = so .tells ∙ sym (accepted-tells 0 told)
 pub price-value : {network request route before after : List ℕ} {number price : ℕ} (so : PriceTold network request route before after number) → so .answer ≡ Costs price → (number ≡ price) × (number < 2 ^ 63)
 price-value {network} {request} {route} so told =
     let same = so .tells ∙ ap pricedNumber told in
-    (same, omega (arith, same, pricing-bounded network request route _ (so .priced .pricing) told))
+    (same, omega (arith, same, pricing-bounded network request route _ (so .priced .pricing) (ap pricedOutcome told)))
 
-pub plan-value : {network : List ℕ} (request : List ℕ) {before after : Lent} {number cost steps : ℕ} (so : PlanTold network request before after number) → so .answer ≡ Found cost steps → (number / 4096 ≡ cost) × (number % 4096 ≡ steps) × (number < 2 ^ 63)
+pub plan-value : {network : List ℕ} (request : List ℕ) {before after : Lent} {number cost count : ℕ} (so : PlanTold network request before after number) → so .answer ≡ Found cost count → (number / 4096 ≡ cost) × (number % 4096 ≡ count) × (number < 2 ^ 63)
 plan-value request so told =
     let same = so .tells ∙ ap plannedNumber told in
-    let small = plan-small request (so .searched) told in
+    let small = plan-small request (so .searched) (ap plannedOutcome told) in
     (omega (arith, same, small), omega (arith, same, small), omega (arith, same, small))
 
 -- ---- a refusal's number is not, and tells its place and number
@@ -91,10 +91,10 @@ pub request-refused : (network s : List ℕ) {number : ℕ} {r : Refusal} → nu
 request-refused network s so told = reads (request-refusal network s refl _ told) (so ∙ sym (refused-tells _ told))
 
 pub walk-refused : {network : List ℕ} {start : ℕ} {before after : List ℕ} {number : ℕ} {r : Refusal} (so : WalkTold network start before after number) → so .answer ≡ NotAccepted r → Reads number r
-walk-refused so told = reads (walk-refusal (so .walked) _ told) (so .tells ∙ sym (refused-tells 0 told))
+walk-refused so told = reads (walk-refusal (so .walked) _ (ap verdictOutcome told)) (so .tells ∙ sym (refused-tells 0 told))
 
 pub price-refused : {network request route before after : List ℕ} {number : ℕ} {r : Refusal} (so : PriceTold network request route before after number) → so .answer ≡ NotPriced r → Reads number r
-price-refused so told = reads (price-refusal (so .priced) _ told) (so .tells ∙ ap pricedNumber told)
+price-refused so told = reads (price-refusal (so .priced) _ (ap pricedOutcome told)) (so .tells ∙ ap pricedNumber told)
 
 pub plan-refused : {network : List ℕ} (request : List ℕ) {before after : Lent} {number : ℕ} {r : Refusal} (so : PlanTold network request before after number) → so .answer ≡ NotPlanned r → Reads number r
-plan-refused request so told = reads (plan-refusal request (so .searched) _ told) (so .tells ∙ ap plannedNumber told)
+plan-refused request so told = reads (plan-refusal request (so .searched) _ (ap plannedOutcome told)) (so .tells ∙ ap plannedNumber told)

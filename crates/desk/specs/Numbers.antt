@@ -2,7 +2,7 @@
 use Prim.Native.Nat.{ℕ, _+_, _*_, _^_}
 use mathlib.Core.Path.{_≡_}
 use mathlib.Core.List.{List}
-use Rattle.rules.specs.Answers.{Walked, PricedRoute, Lent, Searched}
+use Rattle.rules.specs.Answers.{verdictOutcome, pricedOutcome, plannedOutcome, Walked, PricedRoute, Lent, Searched}
 use Rattle.rules.specs.declared.Refusal.{Refusal}
 use Rattle.rules.specs.declared.NetworkRead.{NetworkRead}
 use Rattle.rules.specs.declared.RequestRead.{RequestRead}
@@ -35,21 +35,21 @@ pricedNumber (NotPriced r) = refusalNumber r
 
 -- a cost and its number of steps, as a place of the work table packs them
 abbrev pub plannedNumber : Planned → ℕ
-plannedNumber (Found cost steps) = 4096 * cost + steps
+plannedNumber (Found cost count) = 4096 * cost + count
 plannedNumber (NotPlanned r) = refusalNumber r
 
 -- An answer that keeps the promise of walking, of pricing or of the search, and its number.
 pub record WalkTold (network : List ℕ) (start : ℕ) (before after : List ℕ) (number : ℕ) : Type 0 where
   pub answer : Verdict
-  pub walked : Walked network start before after answer
+  pub walked : Walked network start before after (verdictOutcome answer)
   pub tells : number ≡ verdictNumber answer 0
 
 pub record PriceTold (network request route before after : List ℕ) (number : ℕ) : Type 0 where
   pub answer : Priced
-  pub priced : PricedRoute network request route before after answer
+  pub priced : PricedRoute network request route before after (pricedOutcome answer)
   pub tells : number ≡ pricedNumber answer
 
 pub record PlanTold (network request : List ℕ) (before after : Lent) (number : ℕ) : Type 0 where
   pub answer : Planned
-  pub searched : Searched network request before after answer
+  pub searched : Searched network request before after (plannedOutcome answer)
   pub tells : number ≡ plannedNumber answer

@@ -68,6 +68,7 @@ pub extern "C" fn tivelgor_price(
     let answer = price(network, request, route, meeting);
     let Priced::Price(price) = answer else {
         let Priced::Refused(r) = answer else {
+            // An answer is one of the two, so this is never taken.
             return 0;
         };
         return refusal_number(r);
@@ -87,13 +88,14 @@ pub extern "C" fn tivelgor_search(
     ensures { λ r. ⌜ PlanTold (now (network .entry)) (now (request .entry)) (lent (now (distances .entry)) (now (table .entry)) (now (steps .entry))) (lent (now (distances .exit)) (now (table .exit)) (now (steps .exit))) r ⌝ }
 {
     let answer = search(network, request, distances, table, steps);
-    let Planned::Plan { cost, steps } = answer else {
+    let Planned::Plan { cost, count } = answer else {
         let Planned::Refused(r) = answer else {
+            // An answer is one of the two, so this is never taken.
             return 0;
         };
         return refusal_number(r);
     };
-    4096 * cost + steps as u64
+    4096 * cost + count as u64
 }
 
 // The number of a refusal.

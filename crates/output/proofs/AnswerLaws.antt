@@ -10,11 +10,8 @@ use lib.Pow.{pow-pos}
 use Rattle.rules.specs.Network.{SoundNetwork, nodeCount}
 use Rattle.rules.specs.Request.{SoundRequest, SoundValue, recordChecks, requestVerdict, requestValue, source}
 use Rattle.rules.specs.Plans.{Finish, allRiders}
-use Rattle.rules.specs.Answers.{Lent, Searched, refused, hopeless, planned}
+use Rattle.rules.specs.Answers.{Outcome, gives, refuses, Lent, Searched, refused, hopeless, planned}
 use Rattle.rules.specs.Program.{line, okWord, refusedWord, stepLine, nodeAfter, stepLines, printed}
-use Rattle.rules.specs.declared.Planned.{Planned}
-use Rattle.rules.specs.declared.Planned.the-variants.{Plan as Found, Refused as NotPlanned}
-use Rattle.rules.specs.declared.Refusal.{Refusal}
 use Rattle.rules.proofs.Order.{accepted-front}
 use Rattle.rules.proofs.SoundRequestLaws.{records-sound, value-sound}
 use Rattle.output.specs.Text.{textPlaces, Put}
@@ -62,7 +59,7 @@ module _ {network distances : List ℕ} {start : ℕ} {steps : List ℕ} {at : �
         none (x ∷ xs) h = absurd (omega arith)
 
 -- what the search answers and leaves behind can be printed
-pub found : {network : List ℕ} (request : List ℕ) {before after : Lent} {answer : Planned} {cost count : ℕ} → Searched network request before after answer → answer ≡ Found cost count → Printable network request (after .steps) count
+pub found : {network : List ℕ} (request : List ℕ) {before after : Lent} {answer : Outcome} {cost count : ℕ} → Searched network request before after answer → answer ≡ gives (cost ∷ count ∷ []) → Printable network request (after .steps) count
 unfolding requestVerdict requestValue
 found request (refused r v e same) is = let bad : _≡_ {A = ℕ} 0 1 = cc in absurd (omega (arith, bad))
 found request (hopeless v d t none e same) is = let bad : _≡_ {A = ℕ} 0 1 = cc in absurd (omega (arith, bad))
@@ -99,15 +96,15 @@ rides-from {network} steps count e rides = rw (e, whole) rides
     whole : count - 0 ≡ count
     whole = omega arith
 
-pub answered : {network : List ℕ} (request : List ℕ) {before after : Lent} {answer : Planned} → 3584 ≤ length (after .distances) → length (after .steps) ≤ 4095 → Searched network request before after answer → Answered network request (after .distances) (after .steps) answer
+pub answered : {network : List ℕ} (request : List ℕ) {before after : Lent} {answer : Outcome} → 3584 ≤ length (after .distances) → length (after .steps) ≤ 4095 → Searched network request before after answer → Answered network request (after .distances) (after .steps) answer
 answered request room few searched = record { room = room; few = few; found = λ cost count e. found request searched e }
 
-module _ (network distances steps : List ℕ) (source : ℕ) (answer : Planned) {before after : List ℕ} {end : ℕ} where
-  pub put-refused : {r : Refusal} {l : Line} → answer ≡ NotPlanned r → Reads l (line refusedWord (r .number ∷ r .place ∷ [])) → Put 0 (textOf l) before after end → Put 0 (printed network source answer distances steps) before after end
+module _ (network distances steps : List ℕ) (source : ℕ) (answer : Outcome) {before after : List ℕ} {end : ℕ} where
+  pub put-refused : {number place : ℕ} {l : Line} → answer ≡ refuses number place → Reads l (line refusedWord (number ∷ place ∷ [])) → Put 0 (textOf l) before after end → Put 0 (printed network source answer distances steps) before after end
   unfolding printed
   put-refused e reads put = rw (e, ← reads .says) put
 
-  pub put-planned : {cost count mid x : ℕ} {between : List ℕ} {l : Line} → answer ≡ Found cost count → Reads l (line okWord (cost ∷ count ∷ [])) → Put 0 (textOf l) before between mid → x ≡ source → Put mid (stepLines network distances x (take (count - 0) steps)) between after end → Put 0 (printed network source answer distances steps) before after end
+  pub put-planned : {cost count mid x : ℕ} {between : List ℕ} {l : Line} → answer ≡ gives (cost ∷ count ∷ []) → Reads l (line okWord (cost ∷ count ∷ [])) → Put 0 (textOf l) before between mid → x ≡ source → Put mid (stepLines network distances x (take (count - 0) steps)) between after end → Put 0 (printed network source answer distances steps) before after end
   unfolding printed
   put-planned {count = count} e reads put starts behind =
       let all : count - 0 ≡ count = omega arith in

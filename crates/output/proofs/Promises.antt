@@ -5,9 +5,8 @@ use mathlib.Core.Path.{_≡_, sym, _∙_, ap}
 use mathlib.Core.List.{List}
 use lib.ListN.{length}
 use Rattle.rules.specs.Request.{source}
+use Rattle.rules.specs.Answers.{Outcome, gives, refuses}
 use Rattle.rules.specs.Program.{printed, PlanText, requestPart}
-use Rattle.rules.specs.declared.Planned.{Planned}
-use Rattle.rules.specs.declared.Planned.the-variants.{Plan as Found, Refused as NotPlanned}
 use Rattle.rules.proofs.AnswerLaws.{searched-unique}
 use Rattle.output.specs.Text.{Printed, short, whole}
 
@@ -30,6 +29,6 @@ pub some-text : {network request text : List ℕ} → PlanText network request t
 unfolding printed
 some-text {network} {request} t = omega (arith, ap length (t .says), begins (t .answer))
   where
-    begins : (answer : Planned) → 0 < length (printed network (source request) answer (t .after .distances) (t .after .steps))
-    begins (Found cost count) = omega arith
-    begins (NotPlanned r) = omega arith
+    begins : (answer : Outcome) → 0 < length (printed network (source request) answer (t .after .distances) (t .after .steps))
+    begins (gives values) = omega arith
+    begins (refuses number place) = omega arith

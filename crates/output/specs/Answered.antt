@@ -1,12 +1,11 @@
 -- What must be known of the search's answer to write it, and what is known while its steps are written.
 use Prim.Native.Nat.{ℕ, _*_, _≤_}
 use mathlib.Core.Path.{_≡_}
-use mathlib.Core.List.{List, _++_}
+use mathlib.Core.List.{List, [], _∷_, _++_}
 use lib.ListN.{length, take, drop}
 use Rattle.rules.specs.Request.{source}
+use Rattle.rules.specs.Answers.{Outcome, gives}
 use Rattle.rules.specs.Program.{stepLines}
-use Rattle.rules.specs.declared.Planned.{Planned}
-use Rattle.rules.specs.declared.Planned.the-variants.{Plan as Found}
 use Rattle.lines.specs.Steps.{Rides}
 use Rattle.output.specs.Text.{Put}
 
@@ -16,10 +15,10 @@ pub record Printable (network request steps : List ℕ) (count : ℕ) : Type 0 w
   pub within : count ≤ length steps
   pub rides : Rides network (source request) (take count steps)
 
-pub record Answered (network request distances steps : List ℕ) (answer : Planned) : Type 0 where
+pub record Answered (network request distances steps : List ℕ) (answer : Outcome) : Type 0 where
   pub room : 3584 ≤ length distances
   pub few : length steps ≤ 4095
-  pub found : (cost count : ℕ) → answer ≡ Found cost count → Printable network request steps count
+  pub found : (cost count : ℕ) → answer ≡ gives (cost ∷ count ∷ []) → Printable network request steps count
 
 -- The lines of the first i steps were written, the bus stands at v, and what is left gives the whole.
 pub record Stepping (network distances : List ℕ) (start : ℕ) (steps : List ℕ) (at : ℕ) (before after : List ℕ) (end v i : ℕ) : Type 0 where

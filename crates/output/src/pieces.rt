@@ -6,6 +6,7 @@ use rules::Planned;
 ghost use Prim.Native.Nat.{_+_, _*_, _≤_};
 ghost use lib.ListN.{length};
 ghost use Rattle.rules.specs.Request.{source};
+ghost use Rattle.rules.specs.Answers.{plannedOutcome};
 ghost use Rattle.rules.specs.Program.{printed, stepLines};
 ghost use Rattle.lines.specs.Text.{Room, textOf};
 ghost use Rattle.lines.specs.Steps.{Rides};
@@ -21,11 +22,12 @@ pub fn put_answer(
     answer: Planned,
     text: &mut [u8],
 ) -> usize
-    requires { ⌜ Answered (now network) (now request) (now distances) (now steps) answer × (textPlaces ≤ length (now text)) ⌝ }
-    ensures { λ r. ⌜ Put 0 (printed (now (network .entry)) (source (now (request .entry))) answer (now (distances .entry)) (now (steps .entry))) (now (text .entry)) (now (text .exit)) r ⌝ }
+    requires { ⌜ Answered (now network) (now request) (now distances) (now steps) (plannedOutcome answer) × (textPlaces ≤ length (now text)) ⌝ }
+    ensures { λ r. ⌜ Put 0 (printed (now (network .entry)) (source (now (request .entry))) (plannedOutcome answer) (now (distances .entry)) (now (steps .entry))) (now (text .entry)) (now (text .exit)) r ⌝ }
 {
-    let Planned::Plan { cost, steps: count } = answer else {
+    let Planned::Plan { cost, count } = answer else {
         let Planned::Refused(refusal) = answer else {
+            // An answer is one of the two, so this is never taken.
             return 0;
         };
         let line = lines::refused_line(refusal.number as u64, refusal.place as u64);

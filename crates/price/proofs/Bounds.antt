@@ -2,19 +2,17 @@
 use Prim.Native.Nat.{ℕ, zero, suc, _+_, _*_, _≤_, _<_}
 use native.Mathlib.Omega.{arith}
 use native.Mathlib.Nat.{mul-le-mul}
-use mathlib.Core.Path.{_≡_, sym, _∙_, ap}
-use mathlib.Core.List.{List, _∷_, _++_}
+use mathlib.Core.Path.{_≡_}
+use mathlib.Core.List.{List, [], _∷_, _++_}
 use lib.ListN.{length}
 use Rattle.rules.specs.Network.{nodeCount, SoundNetwork}
 use Rattle.rules.specs.Request.{riderWeightOf, SoundValue, recordChecks, requestVerdict, requestValue}
 use Rattle.rules.specs.Walks.{Way, arrived, along}
 use Rattle.rules.specs.Routes.{Drivable, sum, Price, routeChecks}
-use Rattle.rules.specs.Answers.{Pricing, refused, stranded, priced}
+use Rattle.rules.specs.Answers.{Outcome, gives, Pricing, refused, stranded, priced}
 use Rattle.rules.specs.Checks.{Check, firstOf}
 use Rattle.rules.specs.declared.Request.{Request}
 use Rattle.rules.specs.declared.Verdict.the-variants.{Accepted}
-use Rattle.rules.specs.declared.Priced.{Priced}
-use Rattle.rules.specs.declared.Priced.the-variants.{Price as Costs, Refused as NotPriced}
 use Rattle.rules.proofs.Order.{accepted-head, accepted-front, accepted-rest}
 use Rattle.rules.proofs.SoundRequestLaws.{records-sound, value-sound}
 use Rattle.finish.proofs.Bounds.{walking-bounded}
@@ -48,21 +46,17 @@ price-bounded {network} {q} {route} sound value passes p =
     (λ j h. mul-le-mul (value .weights j h .1) (walking-bounded sound (node-below route from _ (p .meets j h .within)) (p .meets j h .walks))) in
     omega (arith, p .adds, value .riders, drives, walks)
 
-costOf : Priced → ℕ
-costOf (Costs price) = price
-costOf (NotPriced r) = 0
-
 -- Pricing by the records' checks, one check more (31, or the tablet's 38) and the route's.
-pub pricing-bounded : (network request route : List ℕ) (c : Check) {meetings : List ℕ} {answer : Priced} {price : ℕ}
+pub pricing-bounded : (network request route : List ℕ) (c : Check) {meetings : List ℕ} {answer : Outcome} {price : ℕ}
     → Pricing (firstOf (recordChecks network request ++ c ∷ routeChecks network (requestValue request) route)) network (requestValue request) route answer meetings
-    → answer ≡ Costs price
+    → answer ≡ gives (price ∷ [])
     → price ≤ mostPrice
-unfolding costOf requestVerdict
+unfolding requestVerdict
 pricing-bounded network request route c {price = price} pricing told = elim pricing [
-  | refused x v e m ↦ (let same : 0 ≡ price = ap costOf (sym e ∙ told) in omega arith)
-  | stranded j v h s l e m ↦ (let same : 0 ≡ price = ap costOf (sym e ∙ told) in omega arith)
+  | refused x v e m ↦ (let z : _≡_ {A = ℕ} 0 1 = cc in absurd (omega arith))
+  | stranded j v h s l e m ↦ (let z : _≡_ {A = ℕ} 0 1 = cc in absurd (omega arith))
   | priced p v costs z e ↦ (
-      let same : p ≡ price = ap costOf (sym e ∙ told) in
+      let same : p ≡ price = cc in
       let (sound, request-sound) = records-sound network request (accepted-front (recordChecks network request) _ v) in
       let passes = accepted-head c _ (accepted-rest (recordChecks network request) _ v) .1 in
       omega (arith, price-bounded sound (value-sound _ request request-sound) passes costs)

@@ -12,13 +12,11 @@ use Rattle.rules.specs.Checks.{check, refuse, firstOf}
 use Rattle.rules.specs.Request.{recordChecks, requestVerdict, requestValue}
 use Rattle.rules.specs.Routes.{routeChecks}
 use Rattle.rules.specs.Rooms.{Written}
-use Rattle.rules.specs.Answers.{Pricing, refused, stranded, priced, priceChecks, PricedRoute}
+use Rattle.rules.specs.Answers.{Outcome, gives, refuses, Pricing, refused, stranded, priced, priceChecks, PricedRoute}
 use Rattle.rules.specs.declared.Refusal.{Refusal}
 use Rattle.rules.specs.declared.Request.{Request}
 use Rattle.rules.specs.declared.Verdict.{Verdict}
 use Rattle.rules.specs.declared.Verdict.the-variants.{Accepted, Refused as NotAccepted}
-use Rattle.rules.specs.declared.Priced.{Priced}
-use Rattle.rules.specs.declared.Priced.the-variants.{Price as Costs, Refused as NotPriced}
 use Rattle.rules.proofs.Order.{given, passed, front-refused, front-passed}
 
 copy-suc : (xs d : List ℕ) (j : ℕ) → j < length xs → j < length d → set (take j xs ++ drop j d) j (getD xs j 0) ≡ take (suc j) xs ++ drop (suc j) d
@@ -36,7 +34,7 @@ copied-size xs d j h g = simp (length-append, length-drop) (omega (arith, length
 
 module _ (network request route before : List ℕ) where
   -- a refusal of the records leaves the room as it is
-  pub records-refused : {v : Verdict} (r : Refusal) → v ≡ requestVerdict network request → v ≡ NotAccepted r → PricedRoute network request route before before (NotPriced r)
+  pub records-refused : {v : Verdict} (r : Refusal) → v ≡ requestVerdict network request → v ≡ NotAccepted r → PricedRoute network request route before before (refuses (r .number) (r .place))
   unfolding requestVerdict
   records-refused r is told =
       record {
@@ -50,7 +48,7 @@ module _ (network request route before : List ℕ) where
     unfolding requestVerdict
     past-records = rw reads-count (front-passed (recordChecks network request) _ accepted)
 
-    pub refused-31 : length before < count → PricedRoute network request route before before (NotPriced (refuse 31 0))
+    pub refused-31 : length before < count → PricedRoute network request route before before (refuses 31 0)
     refused-31 short =
         record {
           meetings = [];
@@ -58,7 +56,7 @@ module _ (network request route before : List ℕ) where
           written = refl;
         }
 
-    pub route-priced : {answer : Priced} {meetings after : List ℕ} → count ≤ length before → Pricing (firstOf (routeChecks network (requestValue request) route)) network (requestValue request) route answer meetings → Written meetings before after → PricedRoute network request route before after answer
+    pub route-priced : {answer : Outcome} {meetings after : List ℕ} → count ≤ length before → Pricing (firstOf (routeChecks network (requestValue request) route)) network (requestValue request) route answer meetings → Written meetings before after → PricedRoute network request route before after answer
     route-priced {meetings = meetings} enough pricing written =
         record {
           meetings = meetings;
@@ -67,7 +65,7 @@ module _ (network request route before : List ℕ) where
         }
 
 -- a price comes with as many meeting positions as there are riders
-pub meeting-count : {v : Verdict} {network : List ℕ} {q : Request} {route : List ℕ} {answer : Priced} {meetings : List ℕ} {price : ℕ} → Pricing v network q route answer meetings → answer ≡ Costs price → length meetings ≡ q .count
+pub meeting-count : {v : Verdict} {network : List ℕ} {q : Request} {route : List ℕ} {answer : Outcome} {meetings : List ℕ} {values : List ℕ} → Pricing v network q route answer meetings → answer ≡ gives values → length meetings ≡ q .count
 meeting-count (refused r is told none) e = (let z : _≡_ {A = ℕ} 0 1 = cc in absurd (omega arith))
 meeting-count (stranded j is h lost first told none) e = (let z : _≡_ {A = ℕ} 0 1 = cc in absurd (omega arith))
 meeting-count (priced p is so size told) e = size

@@ -6,7 +6,7 @@ use native.Mathlib.Nat.{mul-le-mul}
 use mathlib.Core.Path.{_≡_, refl, _∙_, ap}
 use mathlib.Core.Logic.{⊎-elim, inl}
 use mathlib.Core.Bool.{cond}
-use mathlib.Core.List.{List}
+use mathlib.Core.List.{List, [], _∷_}
 use lib.ListN.{set, take, replicate, length-set}
 use lib.Seq.{getD-set-same, getD-set-other, getD-take, length-take-le}
 use lib.Dec.{eqb}
@@ -15,11 +15,11 @@ use Rattle.rules.specs.Checks.{refuse}
 use Rattle.rules.specs.Walks.{noDistance}
 use Rattle.rules.specs.Request.{riderNodeOf, riderWeightOf}
 use Rattle.rules.specs.Routes.{Meeting, Stranded, sum}
-use Rattle.rules.specs.Answers.{Pricing, stranded, priced}
+use Rattle.rules.specs.Answers.{gives, pricedOutcome, Pricing, stranded, priced}
 use Rattle.rules.specs.declared.Request.{Request}
 use Rattle.rules.specs.declared.Verdict.the-variants.{Accepted}
 use Rattle.rules.specs.declared.Priced.{Priced}
-use Rattle.rules.specs.declared.Priced.the-variants.{Price as Costs, Refused}
+use Rattle.rules.specs.declared.Priced.the-variants.{Refused}
 use Rattle.rules.proofs.PriceLaws.{sum-same}
 use Rattle.finish.proofs.Bounds.{walking-bounded}
 use Rattle.price.specs.Near.{RouteFrom, NearestPosition}
@@ -88,14 +88,14 @@ module _ {network : List ℕ} {q : Request} {route : List ℕ} {driving : ℕ} (
         }
 
     -- a rider who can walk to no position, the first
-    pub met-stranded : {r : Priced} → Stranded network q route j → r ≡ Refused (refuse 37 j) → Pricing Accepted network q route r (meetingsOf (Refused (refuse 37 j)) meetings (q .count))
+    pub met-stranded : {r : Priced} → Stranded network q route j → r ≡ Refused (refuse 37 j) → Pricing Accepted network q route (pricedOutcome r) (meetingsOf (Refused (refuse 37 j)) meetings (q .count))
     met-stranded none told =
         stranded j refl more none
         (λ i h lost. lost _ _ (so .meets i h .within) (so .meets i h .walks))
-        told refl
+        (ap pricedOutcome told) refl
 
   -- all of them
-  pub met-all : {j price : ℕ} {meetings : List ℕ} → MetBelow network q route driving j price meetings → q .count ≤ j → Pricing Accepted network q route (Costs price) (take (q .count) meetings)
+  pub met-all : {j price : ℕ} {meetings : List ℕ} → MetBelow network q route driving j price meetings → q .count ≤ j → Pricing Accepted network q route (gives (price ∷ [])) (take (q .count) meetings)
   met-all {j} {price} {meetings} so all =
       let e : j ≡ q .count = omega (arith, so .within) in
       priced price refl

@@ -11,7 +11,7 @@ ghost use Prim.Native.Nat.{_<_, _≤_};
 ghost use mathlib.Core.Path.{_≡_};
 ghost use lib.ListN.{length};
 ghost use Rattle.rules.specs.Network.{nodeCount};
-ghost use Rattle.rules.specs.Answers.{Pricing};
+ghost use Rattle.rules.specs.Answers.{pricedOutcome, Pricing};
 ghost use Rattle.price.specs.Meetings.{Driveable, meetingsOf};
 ghost use Rattle.price.specs.Near.{RouteFrom, NearestPosition, Sofar, distanceAt, closerOf};
 
@@ -31,7 +31,7 @@ pub struct RoutePrice {
 // who can walk to no position.
 pub fn meet_riders(network: &[u8], q: Request, route: &[u16], driving: u64) -> RoutePrice
     requires { ⌜ Driveable (now network) q (now route) driving ⌝ }
-    ensures { λ r. ⌜ Pricing Verdict.Accepted (now (network .entry)) q (now (route .entry)) (r .answer) (meetingsOf (r .answer) (r .meetings) (q .count)) ⌝ }
+    ensures { λ r. ⌜ Pricing Verdict.Accepted (now (network .entry)) q (now (route .entry)) (pricedOutcome (r .answer)) (meetingsOf (r .answer) (r .meetings) (q .count)) ⌝ }
 {
     let nodes = q.nodes;
     let weights = q.weights;

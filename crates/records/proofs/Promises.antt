@@ -6,10 +6,11 @@ use mathlib.Core.Logic.{_≢_}
 use mathlib.Core.List.{List, [], _∷_}
 use lib.ListN.{getD, set}
 use denote.Ref.{RefT}
-use Rattle.rules.specs.Checks.{refuse, firstOf, each, numberOf, placeOf}
+use Rattle.rules.specs.Checks.{refuse, firstOf, each}
 use Rattle.rules.specs.Numbers.{number}
 use Rattle.rules.specs.Network.{openingChecks, sizeChecks, networkChecks, networkVerdict, networkOf, LinkPart}
 use Rattle.rules.specs.Request.{countChecks, nodeChecks, weightChecks, requestChecks, requestVerdict, sevenPlaces, requestValue, noRequest, requestOf}
+use Rattle.rules.specs.Answers.{refuses, verdictOutcome}
 use Rattle.rules.specs.Town.{town, request, rider, caseA}
 use Rattle.rules.specs.declared.NetworkRead.{NetworkRead}
 use Rattle.rules.specs.declared.RequestRead.{RequestRead}
@@ -31,6 +32,9 @@ pub request-read : requestOf town caseA ≡ record { verdict = Accepted; request
 unfolding networkChecks openingChecks sizeChecks number firstOf each requestOf requestVerdict requestChecks countChecks nodeChecks weightChecks requestValue sevenPlaces
 request-read = refl
 
+refuses-same : {number other place elsewhere : ℕ} → refuses number place ≡ refuses other elsewhere → (number ≡ other) × (place ≡ elsewhere)
+refuses-same e = (cc, cc)
+
 -- ---- wrong answers to a network whose links 1 and 3 end at node 9
 abbrev pub badTown : List ℕ
 badTown = set (set town 20 9) 36 9
@@ -41,7 +45,7 @@ bad-town = refl
 
 pub not-the-highest-link : record { verdict = Refused (refuse 6 3); n = 0; m = 0 } ≡ networkOf badTown → ⊥
 not-the-highest-link e =
-    let place : _≡_ {A = ℕ} 3 1 = ap (λ (r : NetworkRead). placeOf (r .verdict)) (e ∙ bad-town) in
+    let place : _≡_ {A = ℕ} 3 1 = refuses-same (ap (λ (r : NetworkRead). verdictOutcome (r .verdict)) (e ∙ bad-town)) .1 in
     omega arith
 
 pub not-with-its-sizes : record { verdict = Refused (refuse 6 1); n = 5; m = 8 } ≡ networkOf badTown → ⊥
@@ -59,7 +63,7 @@ bad-request = refl
 
 pub not-the-weight-first : record { verdict = Refused (refuse 17 0); request = noRequest } ≡ requestOf town badRequest → ⊥
 not-the-weight-first e =
-    let number : _≡_ {A = ℕ} 17 16 = ap (λ (r : RequestRead). numberOf (r .verdict)) (e ∙ bad-request) in
+    let number : _≡_ {A = ℕ} 17 16 = refuses-same (ap (λ (r : RequestRead). verdictOutcome (r .verdict)) (e ∙ bad-request)) .0 in
     omega arith
 
 pub not-with-a-stray-rider : record { verdict = Accepted; request = record { source = 0; target = 3; weight = 1; count = 1; nodes = 4 ∷ 4 ∷ 0 ∷ 0 ∷ 0 ∷ 0 ∷ 0 ∷ []; weights = 1 ∷ 0 ∷ 0 ∷ 0 ∷ 0 ∷ 0 ∷ 0 ∷ [] } } ≡ requestOf town caseA → ⊥

@@ -5,12 +5,15 @@ use mathlib.Core.List.{List}
 use native.Mathlib.Omega.{arith}
 use denote.Ref.{RefT}
 use Rattle.rules.specs.Network.{Part}
-use Rattle.rules.specs.Answers.{Walked, Pricing, refused, stranded, priced, PricedRoute, Tablet, tabletNumber, Lent, Searching, hopeless, planned, Searched}
+use Rattle.rules.specs.Answers.{Outcome, verdictOutcome, pricedOutcome, plannedOutcome, Walking, Walked, Pricing, refused, stranded, priced, PricedRoute, Tablet, tabletNumber, Lent, Searching, hopeless, planned, Searched}
+use Rattle.rules.specs.declared.Refusal.{Refusal}
 use Rattle.rules.specs.declared.Request.{Request}
 use Rattle.rules.specs.declared.Verdict.{Verdict}
-use Rattle.rules.specs.declared.Verdict.the-variants.{Accepted, Refused}
+use Rattle.rules.specs.declared.Verdict.the-variants.{Accepted, Refused as NotAccepted}
 use Rattle.rules.specs.declared.Priced.{Priced}
+use Rattle.rules.specs.declared.Priced.the-variants.{Price as Costs, Refused as NotPriced}
 use Rattle.rules.specs.declared.Planned.{Planned}
+use Rattle.rules.specs.declared.Planned.the-variants.{Plan as Found, Refused as NotPlanned}
 use Rattle.rules.proofs.WalkLaws.{holds-distance-unique}
 use Rattle.rules.proofs.PriceLaws.{price-unique}
 use Rattle.rules.proofs.PlanLaws.{right-plan-unique}
@@ -23,16 +26,38 @@ part-unique p r =
     let offset = p .place ∙ sym (r .place) in
     (λ i. (block i, offset i), cc)
 
+-- What an answer is in document 01's terms tells which answer it is.
+refusal-same : {r s : Refusal} → r .number ≡ s .number → r .place ≡ s .place → r ≡ s
+refusal-same e f = λ i. record { number = e i; place = f i }
+
+pub verdict-told-apart : (x y : Verdict) → verdictOutcome x ≡ verdictOutcome y → x ≡ y
+verdict-told-apart Accepted Accepted e = refl
+verdict-told-apart Accepted (NotAccepted s) e = cc
+verdict-told-apart (NotAccepted r) Accepted e = cc
+verdict-told-apart (NotAccepted r) (NotAccepted s) e = ap NotAccepted (refusal-same (cc) (cc))
+
+pub priced-told-apart : (x y : Priced) → pricedOutcome x ≡ pricedOutcome y → x ≡ y
+priced-told-apart (Costs p) (Costs q) e = cc
+priced-told-apart (Costs p) (NotPriced s) e = cc
+priced-told-apart (NotPriced r) (Costs q) e = cc
+priced-told-apart (NotPriced r) (NotPriced s) e = ap NotPriced (refusal-same (cc) (cc))
+
+pub planned-told-apart : (x y : Planned) → plannedOutcome x ≡ plannedOutcome y → x ≡ y
+planned-told-apart (Found c n) (Found d m) e = cc
+planned-told-apart (Found c n) (NotPlanned s) e = cc
+planned-told-apart (NotPlanned r) (Found d m) e = cc
+planned-told-apart (NotPlanned r) (NotPlanned s) e = ap NotPlanned (refusal-same (cc) (cc))
+
 -- The walking entry has one answer and leaves one content.
-pub walked-unique : {network : List ℕ} {start : ℕ} {before a b : List ℕ} {x y : Verdict} → Walked network start before a x → Walked network start before b y → (a ≡ b) × (x ≡ y)
-walked-unique {a} {b} {x} {y} w z = (content x refl (cc), cc)
-  where
-    content : (v : Verdict) → x ≡ v → y ≡ v → a ≡ b
-    content Accepted p q = kept-unique (rw p at w .kept) (rw q at z .kept) (λ v h. holds-distance-unique (w .fills p v h) (z .fills q v h))
-    content (Refused r) p q = kept-unique (rw p at w .kept) (rw q at z .kept) (λ v h. absurd (omega arith))
+walking-unique : (verdict : Verdict) {network : List ℕ} {start : ℕ} {before a b : List ℕ} {x y : Outcome} → Walking verdict network start before a x → Walking verdict network start before b y → (a ≡ b) × (x ≡ y)
+walking-unique Accepted w z = (kept-unique (w .kept) (z .kept) (λ v h. holds-distance-unique (w .fills refl v h) (z .fills refl v h)), cc)
+walking-unique (NotAccepted r) w z = (kept-unique (w .kept) (z .kept) (λ v h. absurd (omega arith)), cc)
+
+pub walked-unique : {network : List ℕ} {start : ℕ} {before a b : List ℕ} {x y : Outcome} → Walked network start before a x → Walked network start before b y → (a ≡ b) × (x ≡ y)
+walked-unique w z = walking-unique _ w z
 
 -- Pricing has one answer and one list of meeting positions.
-pub pricing-unique : {verdict : Verdict} {network : List ℕ} {q : Request} {route meetings others : List ℕ} {a b : Priced} → Pricing verdict network q route a meetings → Pricing verdict network q route b others → (a ≡ b) × (meetings ≡ others)
+pub pricing-unique : {verdict : Verdict} {network : List ℕ} {q : Request} {route meetings others : List ℕ} {a b : Outcome} → Pricing verdict network q route a meetings → Pricing verdict network q route b others → (a ≡ b) × (meetings ≡ others)
 pricing-unique (refused r v a m) (refused s w b n) = (cc, cc)
 pricing-unique (refused r v a m) (stranded j w h s first b n) = (cc, cc)
 pricing-unique (refused r v a m) (priced c w p size b) = (cc, cc)
@@ -48,7 +73,7 @@ pricing-unique (priced c v p size a) (stranded i w h s first b n) = absurd (s _ 
 pricing-unique (priced c v p size a) (priced d w r count b) = let same = price-unique size count p r in (cc, same .1)
 
 -- Pricing a route has one answer and leaves one content in the meeting slice.
-pub priced-route-unique : {network request route before a b : List ℕ} {x y : Priced} → PricedRoute network request route before a x → PricedRoute network request route before b y → (a ≡ b) × (x ≡ y)
+pub priced-route-unique : {network request route before a b : List ℕ} {x y : Outcome} → PricedRoute network request route before a x → PricedRoute network request route before b y → (a ≡ b) × (x ≡ y)
 priced-route-unique p r = let same = pricing-unique (p .pricing) (r .pricing) in (cc, same .0)
 
 -- The tablet's entry has one answer.
@@ -60,7 +85,7 @@ pub lent-same : {a b : Lent} → a .distances ≡ b .distances → a .table ≡ 
 lent-same d t s = λ i. record { distances = d i; table = t i; steps = s i }
 
 -- The search, once the verdict on its records and rooms is known, has one answer and leaves one content in each room.
-pub searching-unique : {verdict : Verdict} {network : List ℕ} {q : Request} {before a b : Lent} {x y : Planned} → Searching verdict network q before a x → Searching verdict network q before b y → (a ≡ b) × (x ≡ y)
+pub searching-unique : {verdict : Verdict} {network : List ℕ} {q : Request} {before a b : Lent} {x y : Outcome} → Searching verdict network q before a x → Searching verdict network q before b y → (a ≡ b) × (x ≡ y)
 searching-unique (refused r v x m) (refused s w y n) = (cc, cc)
 searching-unique (refused r v x m) (hopeless w d t h y n) = (cc, cc)
 searching-unique (refused r v x m) (planned plan c w d t p y n) = (cc, cc)
@@ -72,5 +97,5 @@ searching-unique (planned plan c v d t p x m) (hopeless w e u h y n) = absurd (h
 searching-unique (planned plan c v d t p x m) (planned other k w e u r y n) = let s = right-plan-unique p r in (lent-same (distances-unique d e) (table-unique t u) (cc), cc)
 
 -- The search of a request has one answer and leaves one content in each of the three rooms.
-pub searched-unique : {network : List ℕ} (request : List ℕ) {before a b : Lent} {x y : Planned} → Searched network request before a x → Searched network request before b y → (a ≡ b) × (x ≡ y)
+pub searched-unique : {network : List ℕ} (request : List ℕ) {before a b : Lent} {x y : Outcome} → Searched network request before a x → Searched network request before b y → (a ≡ b) × (x ≡ y)
 searched-unique request s t = searching-unique s t

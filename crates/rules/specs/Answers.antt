@@ -1,10 +1,10 @@
 -- What the walking entry, pricing, the tablet's entry and the search answer, and what each leaves in the rooms that it is lent.
-use Prim.Native.Nat.{ℕ, zero, suc, _+_, _*_, _/_, _%_, _^_, _<_}
+use Prim.Native.Nat.{ℕ, zero, suc, _+_, _*_, _/_, _%_, _^_, _<_, _≤_}
 use mathlib.Core.Path.{_≡_}
 use mathlib.Core.List.{List, [], _∷_, _++_}
 use lib.ListN.{length, getD}
 use lib.Dec.{ltb, leb}
-use Rattle.rules.specs.Checks.{Check, check, refuse, firstOf, differ, beside}
+use Rattle.rules.specs.Checks.{Check, check, firstOf, differ, beside}
 use Rattle.rules.specs.Numbers.{two}
 use Rattle.rules.specs.Network.{nodeCount, networkChecks}
 use Rattle.rules.specs.Request.{recordChecks, requestValue}
@@ -21,6 +21,24 @@ use Rattle.rules.specs.declared.Priced.the-variants.{Price as Costs, Ref
 use Rattle.rules.specs.declared.Planned.{Planned}
 use Rattle.rules.specs.declared.Planned.the-variants.{Plan as Found, Refused as NotPlanned}
 
+-- An answer in document 01's terms: the values that it gives, or a refusal's number and place.
+pub data Outcome : Type 0 where
+  gives : (values : List ℕ) → Outcome
+  refuses : (number place : ℕ) → Outcome
+
+-- what each case of an answer is: of walking ("It answers 0, or its refusal with its place."), of pricing, and of the search ("either a cost with its step count or a refusal with its place")
+abbrev pub verdictOutcome : Verdict → Outcome
+verdictOutcome Accepted = gives (0 ∷ [])
+verdictOutcome (NotAccepted r) = refuses (r .number) (r .place)
+
+abbrev pub pricedOutcome : Priced → Outcome
+pricedOutcome (Costs price) = gives (price ∷ [])
+pricedOutcome (NotPriced r) = refuses (r .number) (r .place)
+
+abbrev pub plannedOutcome : Planned → Outcome
+plannedOutcome (Found cost count) = gives (cost ∷ count ∷ [])
+plannedOutcome (NotPlanned r) = refuses (r .number) (r .place)
+
 -- 41, 42: "walking entry: start of n or more; slice under n"
 abbrev pub walkChecks : List ℕ → ℕ → ℕ → List Check
 walkChecks network start room =
@@ -30,18 +48,21 @@ walkChecks network start room =
     ∷ []
 
 -- "The public walking entry fills the first n places of a 32-bit slice". "It answers 0, or its refusal with its place."
-pub record Walked (network : List ℕ) (start : ℕ) (before after : List ℕ) (answer : Verdict) : Type 0 where
-  pub answers : answer ≡ firstOf (walkChecks network start (length before))
-  pub fills : answer ≡ Accepted → (v : ℕ) → v < nodeCount network → HoldsDistance network start v (getD after v 0)
-  pub kept : Kept (beside answer (nodeCount network) 0) before after
+pub record Walking (verdict : Verdict) (network : List ℕ) (start : ℕ) (before after : List ℕ) (answer : Outcome) : Type 0 where
+  pub answers : answer ≡ verdictOutcome verdict
+  pub fills : verdict ≡ Accepted → (v : ℕ) → v < nodeCount network → HoldsDistance network start v (getD after v 0)
+  pub kept : Kept (beside verdict (nodeCount network) 0) before after
+
+abbrev pub Walked : List ℕ → ℕ → List ℕ → List ℕ → Outcome → Type 0
+Walked network start before after answer = Walking (firstOf (walkChecks network start (length before))) network start before after answer
 
 -- How a route is priced, once the verdict on all that can be read off the records and the route is known: the answer, and the meeting positions that it comes with.
 -- 37: "pricing: a rider reaches no position (place: lowest rider)"
-pub data Pricing (verdict : Verdict) (network : List ℕ) (q : Request) (route : List ℕ) (answer : Priced) (meetings : List ℕ) : Type 0 where
+pub data Pricing (verdict : Verdict) (network : List ℕ) (q : Request) (route : List ℕ) (answer : Outcome) (meetings : List ℕ) : Type 0 where
   refused :
       (r : Refusal)
       → verdict ≡ NotAccepted r
-      → answer ≡ NotPriced r
+      → answer ≡ refuses (r .number) (r .place)
       → meetings ≡ []
       → Pricing verdict network q route answer meetings
   stranded :
@@ -50,7 +71,7 @@ pub data Pricing (verdict : Verdict) (network : List ℕ) (q : Request) (route :
       → j < q .count
       → Stranded network q route j
       → ((i : ℕ) → i < j → Stranded network q route i → ⊥)
-      → answer ≡ NotPriced (refuse 37 j)
+      → answer ≡ refuses 37 j
       → meetings ≡ []
       → Pricing verdict network q route answer meetings
   priced :
@@ -58,7 +79,7 @@ pub data Pricing (verdict : Verdict) (network : List ℕ) (q : Request) (route :
       → verdict ≡ Accepted
       → Price network q route meetings price
       → length meetings ≡ q .count
-      → answer ≡ Costs price
+      → answer ≡ gives (price ∷ [])
       → Pricing verdict network q route answer meetings
 
 -- 31: "pricing: meeting slice under l"
@@ -69,7 +90,7 @@ priceChecks network request route room =
     ∷ routeChecks network (requestValue request) route
 
 -- "it answers the price and writes l 16-bit meeting positions, only on success"
-pub record PricedRoute (network request route before after : List ℕ) (answer : Priced) : Type 0 where
+pub record PricedRoute (network request route before after : List ℕ) (answer : Outcome) : Type 0 where
   pub meetings : List ℕ
   pub pricing : Pricing (firstOf (priceChecks network request route (length before))) network (requestValue request) route answer meetings
   pub written : Written meetings before after
@@ -90,12 +111,12 @@ tabletChecks network request bytes =
     ∷ routeChecks network (requestValue request) (routeOf bytes)
 
 -- "It gets the price, or 2^63 plus the refusal number."
-abbrev pub tabletNumber : Priced → ℕ
-tabletNumber (Costs price) = price
-tabletNumber (NotPriced r) = 2 ^ 63 + r .number
+abbrev pub tabletNumber : Outcome → ℕ
+tabletNumber (gives values) = getD values 0 0
+tabletNumber (refuses number place) = 2 ^ 63 + number
 
 pub record Tablet (network request bytes : List ℕ) (number : ℕ) : Type 0 where
-  pub answer : Priced
+  pub answer : Outcome
   pub meetings : List ℕ
   pub pricing : Pricing (firstOf (tabletChecks network request bytes)) network (requestValue request) (routeOf bytes) answer meetings
   pub tells : number ≡ tabletNumber answer
@@ -115,16 +136,22 @@ pub record Lent : Type 0 where
   pub table : List ℕ
   pub steps : List ℕ
 
+-- Rooms with the places that n nodes and l riders need, or more.
+pub record Enough (n l : ℕ) (rooms : Lent) : Type 0 where
+  pub distances : distancePlaces n l ≤ length (rooms .distances)
+  pub table : tablePlaces n l ≤ length (rooms .table)
+  pub steps : stepPlaces n l ≤ length (rooms .steps)
+
 -- "Every refusal leaves all lent memory unchanged, except 24: it fills distances and table as above and leaves the steps room."
 -- 24: "search: no plan exists"
-pub data Searching (verdict : Verdict) (network : List ℕ) (q : Request) (before after : Lent) (answer : Planned) : Type 0 where
-  refused : (r : Refusal) → verdict ≡ NotAccepted r → answer ≡ NotPlanned r → after ≡ before → Searching verdict network q before after answer
+pub data Searching (verdict : Verdict) (network : List ℕ) (q : Request) (before after : Lent) (answer : Outcome) : Type 0 where
+  refused : (r : Refusal) → verdict ≡ NotAccepted r → answer ≡ refuses (r .number) (r .place) → after ≡ before → Searching verdict network q before after answer
   hopeless :
       verdict ≡ Accepted
       → Distances network q (before .distances) (after .distances)
       → Table network q (before .table) (after .table)
       → NoPlan network q
-      → answer ≡ NotPlanned (refuse 24 0)
+      → answer ≡ refuses 24 0
       → after .steps ≡ before .steps
       → Searching verdict network q before after answer
   planned :
@@ -133,11 +160,11 @@ pub data Searching (verdict : Verdict) (network : List ℕ) (q : Request) (befor
       → Distances network q (before .distances) (after .distances)
       → Table network q (before .table) (after .table)
       → RightPlan network q plan cost
-      → answer ≡ Found cost (length plan)
+      → answer ≡ gives (cost ∷ length plan ∷ [])
       → Written plan (before .steps) (after .steps)
       → Searching verdict network q before after answer
 
-abbrev pub Searched : List ℕ → List ℕ → Lent → Lent → Planned → Type 0
+abbrev pub Searched : List ℕ → List ℕ → Lent → Lent → Outcome → Type 0
 Searched network request before after answer =
     Searching (firstOf (searchChecks network request (length (before .distances)) (length (before .table)) (length (before .steps))))
     network (requestValue request) before after answer

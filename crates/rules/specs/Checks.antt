@@ -39,12 +39,3 @@ outside low high x = ltb x low || ltb high x
 abbrev pub beside : {A : Type 0} → Verdict → A → A → A
 beside Accepted value nothing = value
 beside (Refused r) value nothing = nothing
-
--- Document 01's number and place of a verdict: 0 and 0 is accepted.
-abbrev pub numberOf : Verdict → ℕ
-numberOf Accepted = 0
-numberOf (Refused r) = r .number
-
-abbrev pub placeOf : Verdict → ℕ
-placeOf Accepted = 0
-placeOf (Refused r) = r .place

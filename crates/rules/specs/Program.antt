@@ -7,9 +7,7 @@ use lib.ListN.{length, getD, take, drop, replicate}
 use lib.Dec.{ltb}
 use Rattle.rules.specs.Network.{statedLength, nodeCount, from, to}
 use Rattle.rules.specs.Request.{source}
-use Rattle.rules.specs.Answers.{Lent, Searched}
-use Rattle.rules.specs.declared.Planned.{Planned}
-use Rattle.rules.specs.declared.Planned.the-variants.{Plan as Found, Refused as NotPlanned}
+use Rattle.rules.specs.Answers.{Outcome, gives, refuses, Lent, Searched}
 
 -- "It takes the first 16,424 bytes at most; the network is as long as it states, or the whole input if that is under 5 bytes or shorter than stated; the rest is the request."
 abbrev pub taken : List ℕ → List ℕ
@@ -74,14 +72,14 @@ stepLines network distances v (step ∷ steps) =
     stepLine network distances v step ++ stepLines network distances (nodeAfter network v step) steps
 
 -- "`ok` cost steps", then a line for each step. "A refusal prints `refused` number place."
-unfoldable pub printed : List ℕ → ℕ → Planned → List ℕ → List ℕ → List ℕ
-printed network source (Found cost count) distances steps =
-    line okWord (cost ∷ count ∷ []) ++ stepLines network distances source (take count steps)
-printed network source (NotPlanned r) distances steps = line refusedWord (r .number ∷ r .place ∷ [])
+unfoldable pub printed : List ℕ → ℕ → Outcome → List ℕ → List ℕ → List ℕ
+printed network source (gives values) distances steps =
+    line okWord values ++ stepLines network distances source (take (getD values 1 0) steps)
+printed network source (refuses number place) distances steps = line refusedWord (number ∷ place ∷ [])
 
 -- The text of the program for two records: what the search answers in these rooms, and the steps and distances that it leaves there.
 pub record PlanText (network request text : List ℕ) : Type 0 where
-  pub answer : Planned
+  pub answer : Outcome
   pub after : Lent
   pub searched : Searched network request programRooms after answer
   pub says : text ≡ printed network (source request) answer (after .distances) (after .steps)

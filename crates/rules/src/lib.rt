@@ -65,6 +65,6 @@ pub enum Priced {
 
 // What the search answers: what the plan costs and how many steps it has, or why there is none.
 pub enum Planned {
-    Plan { cost: u64, steps: usize },
+    Plan { cost: u64, count: usize },
     Refused(Refusal),
 }

@@ -8,9 +8,8 @@ use lib.ListN.{length}
 use Rattle.rules.specs.Checks.{firstOf}
 use Rattle.rules.specs.Network.{nodeCount}
 use Rattle.rules.specs.Request.{recordChecks, requestVerdict, requestValue, SoundValue}
-use Rattle.rules.specs.Answers.{Lent, searchChecks, Searched, refused, hopeless, planned}
+use Rattle.rules.specs.Answers.{Outcome, Lent, searchChecks, Searched, refused, hopeless, planned}
 use Rattle.rules.specs.declared.Verdict.the-variants.{Accepted}
-use Rattle.rules.specs.declared.Planned.{Planned}
 use Rattle.rules.proofs.Order.{front-passed, accepted-front, accepted-rest}
 use Rattle.rules.proofs.Refusals.{search-small}
 use Rattle.rules.proofs.SoundRequestLaws.{records-sound, sound-records, value-sound}
@@ -26,20 +25,19 @@ module _ (network request : List ℕ) {before : Lent} where
   unfolding requestVerdict
   given-passes given =
       front-passed (recordChecks network request) _ (sound-records network request (given .network-sound) (given .request-sound))
-      ∙ room-enough (nodeCount network) (requestValue request .count) _ _ _ (given .distances) (given .table) (given .steps)
+      ∙ room-enough (nodeCount network) (requestValue request .count) _ _ _ (given .enough .distances) (given .enough .table) (given .enough .steps)
 
   passes-given : firstOf (searchChecks network request (length (before .distances)) (length (before .table)) (length (before .steps))) ≡ Accepted → Given network request before
   unfolding requestVerdict
   passes-given e =
       let (sound, request-sound) = records-sound network request (accepted-front (recordChecks network request) _ e) in
-      let (walks, rows, steps) = rooms-accepted (nodeCount network) (requestValue request .count) _ _ _ (accepted-rest (recordChecks network request) _ e) in
-      record { network-sound = sound; request-sound = request-sound; distances = walks; table = rows; steps = steps }
+      record { network-sound = sound; request-sound = request-sound; enough = rooms-accepted (nodeCount network) (requestValue request .count) before (accepted-rest (recordChecks network request) _ e) }
 
   value : Given network request before → SoundValue (nodeCount network) (requestValue request)
   value given = value-sound (nodeCount network) request (given .request-sound)
 
   -- Every search that keeps its promise meets demand 3.
-  pub demand-3 : {after : Lent} {answer : Planned} → Searched network request before after answer → Demand3 network request before after answer
+  pub demand-3 : {after : Lent} {answer : Outcome} → Searched network request before after answer → Demand3 network request before after answer
   demand-3 (refused r v a same) =
       record {
         answers = λ given. let passes = given-passes given in let z : _≡_ {A = ℕ} 0 1 = cc in absurd (omega arith);

@@ -8,19 +8,16 @@ use lib.ListN.{length}
 use lib.Pow.{pow-pos}
 use borrow.Author.Tests.{lt-ltb, le-ltb, ltb-false}
 use Rattle.rules.specs.Checks.{refuse, firstOf}
-use Rattle.rules.specs.Network.{SoundNetwork, nodeCount}
-use Rattle.rules.specs.Request.{SoundValue, recordChecks, requestVerdict, requestValue}
+use Rattle.rules.specs.Network.{nodeCount}
+use Rattle.rules.specs.Request.{recordChecks, requestVerdict, requestValue}
 use Rattle.rules.specs.Rooms.{distancePlaces, tablePlaces, stepPlaces}
-use Rattle.rules.specs.Answers.{Lent, Searched, Searching, roomChecks, refused}
+use Rattle.rules.specs.Answers.{Outcome, refuses, Lent, Enough, Searched, Searching, roomChecks, refused}
 use Rattle.rules.specs.declared.Refusal.{Refusal}
 use Rattle.rules.specs.declared.Request.{Request}
 use Rattle.rules.specs.declared.Verdict.{Verdict}
 use Rattle.rules.specs.declared.Verdict.the-variants.{Accepted, Refused as NotAccepted}
-use Rattle.rules.specs.declared.Planned.{Planned}
-use Rattle.rules.specs.declared.Planned.the-variants.{Refused as NotPlanned}
 use Rattle.rules.proofs.Order.{front-refused, front-passed, accepted-head}
 use Rattle.table.proofs.RowLaws.{few-sets}
-use Rattle.search.specs.Rooms.{Roomy}
 
 -- seven riders have 128 sets
 pub sets-few : (l : ℕ) → l ≤ 7 → 2 ^ l ≤ 128
@@ -45,24 +42,25 @@ module _ (n l d t s : ℕ) where
       unfolding firstOf
       room-enough steps = simp (le-ltb _ _ walks, le-ltb _ _ rows, le-ltb _ _ steps)
 
-  pub rooms-accepted : firstOf (roomChecks n l d t s) ≡ Accepted → (distancePlaces n l ≤ d) × (tablePlaces n l ≤ t) × (stepPlaces n l ≤ s)
-  rooms-accepted e =
-      let (a, e₁) = accepted-head _ _ e in
-      let (b, e₂) = accepted-head _ _ e₁ in
-      let (c, e₃) = accepted-head _ _ e₂ in
-      (ltb-false _ _ a, ltb-false _ _ b, ltb-false _ _ c)
+-- rooms that pass their checks are large enough
+pub rooms-accepted : (n l : ℕ) (rooms : Lent) → firstOf (roomChecks n l (length (rooms .distances)) (length (rooms .table)) (length (rooms .steps))) ≡ Accepted → Enough n l rooms
+rooms-accepted n l rooms e =
+    let (a, e₁) = accepted-head _ _ e in
+    let (b, e₂) = accepted-head _ _ e₁ in
+    let (c, e₃) = accepted-head _ _ e₂ in
+    record { distances = ltb-false _ _ a; table = ltb-false _ _ b; steps = ltb-false _ _ c }
 
 module _ (network request : List ℕ) (before : Lent) where
-  pub records-refused : {v : Verdict} (r : Refusal) → v ≡ requestVerdict network request → v ≡ NotAccepted r → Searched network request before before (NotPlanned r)
+  pub records-refused : {v : Verdict} (r : Refusal) → v ≡ requestVerdict network request → v ≡ NotAccepted r → Searched network request before before (refuses (r .number) (r .place))
   unfolding requestVerdict
   records-refused r is told = refused r (front-refused (recordChecks network request) _ r (sym is ∙ told)) refl refl
 
   module _ (accepted : requestVerdict network request ≡ Accepted) {v : Verdict} (rooms : v ≡ firstOf (roomChecks (nodeCount network) (requestValue request .count) (length (before .distances)) (length (before .table)) (length (before .steps)))) where
-    pub rooms-refused : (r : Refusal) → v ≡ NotAccepted r → Searched network request before before (NotPlanned r)
+    pub rooms-refused : (r : Refusal) → v ≡ NotAccepted r → Searched network request before before (refuses (r .number) (r .place))
     unfolding requestVerdict
     rooms-refused r told = refused r (front-passed (recordChecks network request) _ accepted ∙ sym rooms ∙ told) refl refl
 
-    pub searched : {after : Lent} {answer : Planned} → v ≡ Accepted → Searching Accepted network (requestValue request) before after answer → Searched network request before after answer
+    pub searched : {after : Lent} {answer : Outcome} → v ≡ Accepted → Searching Accepted network (requestValue request) before after answer → Searched network request before after answer
     unfolding requestVerdict
     searched told so = rw (front-passed (recordChecks network request) _ accepted ∙ sym rooms ∙ told) so
 
@@ -71,9 +69,3 @@ steps-few n l h g =
     let riders : l + 1 ≤ 8 = omega arith in
     let links : n - 1 ≤ 511 = omega arith in
     mul-le-mul riders links
-
--- rooms that pass their checks are large enough
-pub roomy : {network : List ℕ} {q : Request} (d t s : List ℕ) → SoundNetwork network → SoundValue (nodeCount network) q → firstOf (roomChecks (nodeCount network) (q .count) (length d) (length t) (length s)) ≡ Accepted → Roomy network q d t s
-roomy d t s network request e =
-    let (walks, rows, steps) = rooms-accepted _ _ (length d) (length t) (length s) e in
-    record { ready = record { sound = network; request = request; places = walks }; places = rows; room = steps }

@@ -2,27 +2,22 @@
 use Prim.Native.Nat.{ℕ, _≤_}
 use mathlib.Core.Path.{_≡_}
 use mathlib.Core.Logic.{_⊎_, _↔_}
-use mathlib.Core.List.{List}
+use mathlib.Core.List.{List, [], _∷_}
 use lib.ListN.{length}
-use Rattle.rules.specs.Checks.{refuse}
 use Rattle.rules.specs.Network.{SoundNetwork, nodeCount}
 use Rattle.rules.specs.Request.{SoundRequest, requestValue}
 use Rattle.rules.specs.Routes.{Price}
 use Rattle.rules.specs.Plans.{RightPlan}
-use Rattle.rules.specs.Rooms.{Written, distancePlaces, tablePlaces, stepPlaces}
-use Rattle.rules.specs.Answers.{Lent}
+use Rattle.rules.specs.Rooms.{Written}
+use Rattle.rules.specs.Answers.{Outcome, gives, refuses, Lent, Enough}
 use Rattle.rules.specs.declared.Request.{Request}
-use Rattle.rules.specs.declared.Planned.{Planned}
-use Rattle.rules.specs.declared.Planned.the-variants.{Plan as Found, Refused as NotPlanned}
 use Rattle.right.specs.Steps.{drivesOf, positionsOf, NoDrive}
 
 -- "Given sound records and the room that document 01 and later requests ask for"
 pub record Given (network request : List ℕ) (before : Lent) : Type 0 where
   pub network-sound : SoundNetwork network
   pub request-sound : SoundRequest (nodeCount network) request
-  pub distances : distancePlaces (nodeCount network) (requestValue request .count) ≤ length (before .distances)
-  pub table : tablePlaces (nodeCount network) (requestValue request .count) ≤ length (before .table)
-  pub steps : stepPlaces (nodeCount network) (requestValue request .count) ≤ length (before .steps)
+  pub enough : Enough (nodeCount network) (requestValue request .count) before
 
 -- The plan that an answer stands for.
 pub record AnsweredPlan (network : List ℕ) (q : Request) (before after : Lent) (cost count : ℕ) : Type 0 where
@@ -38,9 +33,9 @@ pub record AnsweredPlan (network : List ℕ) (q : Request) (before after : Lent)
   pub right : RightPlan network q steps cost
   pub only : (others : List ℕ) (c : ℕ) → RightPlan network q others c → (others ≡ steps) × (c ≡ cost)
 
-pub record Demand3 (network request : List ℕ) (before after : Lent) (answer : Planned) : Type 0 where
+pub record Demand3 (network request : List ℕ) (before after : Lent) (answer : Outcome) : Type 0 where
   -- what is given is answered by a plan or by 24
-  pub answers : Given network request before → ((cost count : ℕ) × (answer ≡ Found cost count)) ⊎ (answer ≡ NotPlanned (refuse 24 0))
-  pub plan : (cost count : ℕ) → answer ≡ Found cost count → AnsweredPlan network (requestValue request) before after cost count
+  pub answers : Given network request before → ((cost count : ℕ) × (answer ≡ gives (cost ∷ count ∷ []))) ⊎ (answer ≡ refuses 24 0)
+  pub plan : (cost count : ℕ) → answer ≡ gives (cost ∷ count ∷ []) → AnsweredPlan network (requestValue request) before after cost count
   -- ""No route" (24) is answered exactly when no such drive passes corners that all the riders can walk to."
-  pub none : (answer ≡ NotPlanned (refuse 24 0)) ↔ (Given network request before × NoDrive network (requestValue request))
+  pub none : (answer ≡ refuses 24 0) ↔ (Given network request before × NoDrive network (requestValue request))

@@ -9,7 +9,7 @@ use rules::Verdict;
 use table::inner::fill_distances;
 use table::inner::fill_table;
 use table::inner::rider_bit;
-ghost use Rattle.rules.specs.Answers.{Searching};
+ghost use Rattle.rules.specs.Answers.{plannedOutcome, Searching};
 ghost use Rattle.search.specs.Rooms.{lent, Roomy};
 
 // Fills the distances and the table, and writes the right plan's steps: its cost and number of steps, or refusal 24.
@@ -20,8 +20,8 @@ pub fn plan(
     table: &mut [u64],
     steps: &mut [u16],
 ) -> Planned
-    requires { ⌜ Roomy (now network) q (now distances) (now table) (now steps) ⌝ }
-    ensures { λ r. ⌜ Searching Verdict.Accepted (now (network .entry)) q (lent (now (distances .entry)) (now (table .entry)) (now (steps .entry))) (lent (now (distances .exit)) (now (table .exit)) (now (steps .exit))) r ⌝ }
+    requires { ⌜ Roomy (now network) q (lent (now distances) (now table) (now steps)) ⌝ }
+    ensures { λ r. ⌜ Searching Verdict.Accepted (now (network .entry)) q (lent (now (distances .entry)) (now (table .entry)) (now (steps .entry))) (lent (now (distances .exit)) (now (table .exit)) (now (steps .exit))) (plannedOutcome r) ⌝ }
 {
     fill_distances(network, q, distances);
     fill_table(network, q, distances, table);
@@ -35,6 +35,6 @@ pub fn plan(
     read_plan(network, q, distances, table, steps);
     Planned::Plan {
         cost: best / 4096,
-        steps: (best % 4096) as usize,
+        count: (best % 4096) as usize,
     }
 }

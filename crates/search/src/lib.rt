@@ -12,7 +12,7 @@ use table::inner::rider_bit;
 ghost use Prim.Native.Nat.{_≤_};
 ghost use mathlib.Core.Path.{_≡_};
 ghost use Rattle.rules.specs.Checks.{firstOf};
-ghost use Rattle.rules.specs.Answers.{roomChecks, Searched};
+ghost use Rattle.rules.specs.Answers.{plannedOutcome, roomChecks, Searched};
 ghost use Rattle.search.specs.Rooms.{lent};
 
 // Finds the right plan: fills the riders' walking distances and the work table, and writes the plan's steps. Answers its
@@ -24,7 +24,7 @@ pub fn search(
     table: &mut [u64],
     steps: &mut [u16],
 ) -> Planned
-    ensures { λ r. ⌜ Searched (now (network .entry)) (now (request .entry)) (lent (now (distances .entry)) (now (table .entry)) (now (steps .entry))) (lent (now (distances .exit)) (now (table .exit)) (now (steps .exit))) r ⌝ }
+    ensures { λ r. ⌜ Searched (now (network .entry)) (now (request .entry)) (lent (now (distances .entry)) (now (table .entry)) (now (steps .entry))) (lent (now (distances .exit)) (now (table .exit)) (now (steps .exit))) (plannedOutcome r) ⌝ }
 {
     let read = read_request(network, request);
     let verdict = read.verdict;

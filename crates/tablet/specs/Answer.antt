@@ -6,10 +6,9 @@ use lib.ListN.{length, getD}
 use Rattle.rules.specs.Checks.{firstOf}
 use Rattle.rules.specs.Numbers.{two}
 use Rattle.rules.specs.Request.{requestValue}
-use Rattle.rules.specs.Answers.{Pricing, routeOf, tabletChecks}
-use Rattle.rules.specs.declared.Priced.{Priced}
+use Rattle.rules.specs.Answers.{Outcome, Pricing, routeOf, tabletChecks}
 
-pub record Answered (network request bytes : List ℕ) (answer : Priced) : Type 0 where
+pub record Answered (network request bytes : List ℕ) (answer : Outcome) : Type 0 where
   pub meetings : List ℕ
   pub pricing : Pricing (firstOf (tabletChecks network request bytes)) network (requestValue request) (routeOf bytes) answer meetings
 

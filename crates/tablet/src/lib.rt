@@ -8,7 +8,7 @@ use rules::LONGEST_ROUTE;
 use rules::Priced;
 use rules::Refusal;
 use rules::Verdict;
-ghost use Rattle.rules.specs.Answers.{Tablet};
+ghost use Rattle.rules.specs.Answers.{pricedOutcome, Tablet};
 ghost use Rattle.tablet.specs.Answer.{Answered};
 
 // Prices a route whose link numbers come as bytes, the high one first. From 2^63 on, the answer is a refusal's number.
@@ -19,6 +19,7 @@ pub extern "C" fn tivelgor_tablet_price(network: &[u8], request: &[u8], route: &
     let answer = tablet_answer(network, request, route);
     let Priced::Price(price) = answer else {
         let Priced::Refused(r) = answer else {
+            // An answer is one of the two, so this is never taken.
             return 0;
         };
         return 9223372036854775808 + r.number as u64;
@@ -28,7 +29,7 @@ pub extern "C" fn tivelgor_tablet_price(network: &[u8], request: &[u8], route: &
 
 // The price, or the refusal of the records, 38, or 32 to 37.
 fn tablet_answer(network: &[u8], request: &[u8], route: &[u8]) -> Priced
-    ensures { λ r. ⌜ Answered (now (network .entry)) (now (request .entry)) (now (route .entry)) r ⌝ }
+    ensures { λ r. ⌜ Answered (now (network .entry)) (now (request .entry)) (now (route .entry)) (pricedOutcome r) ⌝ }
 {
     let read = read_request(network, request);
     let verdict = read.verdict;

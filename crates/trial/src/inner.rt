@@ -89,7 +89,7 @@ pub fn searched(town: &[usize; NUMBERS], lent: Places) -> [usize; ANSWER] {
 
 fn said(planned: Planned) -> [usize; ANSWER] {
     let mut answer = [0; ANSWER];
-    let Planned::Plan { cost, steps } = planned else {
+    let Planned::Plan { cost, count } = planned else {
         let Planned::Refused(refusal) = planned else {
             return answer;
         };
@@ -98,7 +98,7 @@ fn said(planned: Planned) -> [usize; ANSWER] {
         return answer;
     };
     answer[1] = cost as usize;
-    answer[2] = steps;
+    answer[2] = count;
     answer
 }
 

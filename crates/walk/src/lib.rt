@@ -4,12 +4,12 @@ pub mod inner;
 use records::read_network;
 use rules::Verdict;
 use rules::refused;
-ghost use Rattle.rules.specs.Answers.{Walked};
+ghost use Rattle.rules.specs.Answers.{verdictOutcome, Walked};
 
 // Fills the first n places of `distances` with the walking distances from `start`, 4,294,967,295 where there is no
 // walk, or refuses and leaves it unchanged.
 pub fn walk(network: &[u8], start: usize, distances: &mut [u32]) -> Verdict
-    ensures { λ r. ⌜ Walked (now (network .entry)) start (now (distances .entry)) (now (distances .exit)) r ⌝ }
+    ensures { λ r. ⌜ Walked (now (network .entry)) start (now (distances .entry)) (now (distances .exit)) (verdictOutcome r) ⌝ }
 {
     let read = read_network(network);
     let verdict = read.verdict;

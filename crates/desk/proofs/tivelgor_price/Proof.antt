@@ -1,6 +1,7 @@
 use native.Mathlib.Omega.{arith}
 use Prim.Native.Nat.{ℕ}
 use mathlib.Core.Path.{_≡_, sym, _∙_, ap}
+use Rattle.rules.specs.Answers.{pricedOutcome}
 use Rattle.desk.specs.Numbers.{pricedNumber}
 use Rattle.desk.proofs.Numbers.{price-refusal}
 use borrow.Author.Needs.{needs}
@@ -29,19 +30,19 @@ returns : tie.Need-returns
 returns c = (let z : _≡_ {A = ℕ} 0 1 = cc (c .before .before .before .answer2 .given .1) in absurd (omega arith))
 
 refusal-number-requires : tie.Need-refusal-number-requires
-refusal-number-requires c κs = price-refusal (c .before .before .before .before .before .before .before .before .price .ensures) _ (c .before .before .before .before .answer2 .given .1 ∙ c .before .answer3 .given .1) .place
+refusal-number-requires c κs = price-refusal (c .before .before .before .before .before .before .before .before .price .ensures) _ (ap pricedOutcome (c .before .before .before .before .answer2 .given .1 ∙ c .before .answer3 .given .1)) .place
 
 same-length-2 : tie.Need-same-length-2
 same-length-2 c = search needs
 
 returns-2 : tie.Need-returns-2
-returns-2 c = record { answer = _; priced = c .before .before .before .before .before .before .before .before .before .price .ensures; tells = c .refusal-number .ensures ∙ sym (ap pricedNumber (c .before .before .before .before .before .answer2 .given .1 ∙ c .before .before .answer3 .given .1)) }
+returns-2 c = record { answer = c .before .before .before .before .before .before .before .before .before .price .result; priced = c .before .before .before .before .before .before .before .before .before .price .ensures; tells = c .refusal-number .ensures ∙ sym (ap pricedNumber (c .before .before .before .before .before .answer2 .given .1 ∙ c .before .before .answer3 .given .1)) }
 
 same-length-3 : tie.Need-same-length-3
 same-length-3 c = search needs
 
 returns-3 : tie.Need-returns-3
-returns-3 c = record { answer = _; priced = c .before .before .before .before .before .price .ensures; tells = sym (ap pricedNumber (c .before .answer .given .1)) }
+returns-3 c = record { answer = c .before .before .before .before .before .price .result; priced = c .before .before .before .before .before .price .ensures; tells = sym (ap pricedNumber (c .before .answer .given .1)) }
 
 pub tivelgor-price-spec : {M : Type 1} → statement M
 tivelgor-price-spec =

@@ -1,6 +1,7 @@
 use native.Mathlib.Omega.{arith}
 use Prim.Native.Nat.{ℕ}
 use mathlib.Core.Path.{_≡_, sym, _∙_, ap}
+use Rattle.rules.specs.Answers.{plannedOutcome}
 use Rattle.desk.specs.Numbers.{plannedNumber}
 use Rattle.desk.proofs.Numbers.{plan-refusal, plan-small}
 use borrow.Author.Needs.{needs}
@@ -35,7 +36,7 @@ returns : tie.Need-returns
 returns c = (let z : _≡_ {A = ℕ} 0 1 = cc (c .before .before .before .answer2 .given .1) in absurd (omega arith))
 
 refusal-number-requires : tie.Need-refusal-number-requires
-refusal-number-requires c κs = plan-refusal _ (c .before .before .before .before .before .before .before .before .before .before .before .before .search .ensures) _ (c .before .before .before .before .answer2 .given .1 ∙ c .before .answer3 .given .1) .place
+refusal-number-requires c κs = plan-refusal _ (c .before .before .before .before .before .before .before .before .before .before .before .before .search .ensures) _ (ap plannedOutcome (c .before .before .before .before .answer2 .given .1 ∙ c .before .answer3 .given .1)) .place
 
 same-length-4 : tie.Need-same-length-4
 same-length-4 c = search needs
@@ -47,13 +48,13 @@ same-length-6 : tie.Need-same-length-6
 same-length-6 c = search needs
 
 returns-2 : tie.Need-returns-2
-returns-2 c = record { answer = _; searched = c .before .before .before .before .before .before .before .before .before .before .before .before .before .search .ensures; tells = c .refusal-number .ensures ∙ sym (ap plannedNumber (c .before .before .before .before .before .answer2 .given .1 ∙ c .before .before .answer3 .given .1)) }
+returns-2 c = record { answer = c .before .before .before .before .before .before .before .before .before .before .before .before .before .search .result; searched = c .before .before .before .before .before .before .before .before .before .before .before .before .before .search .ensures; tells = c .refusal-number .ensures ∙ sym (ap plannedNumber (c .before .before .before .before .before .answer2 .given .1 ∙ c .before .before .answer3 .given .1)) }
 
 mul-result : tie.Need-mul-result
-mul-result c = omega (arith, plan-small _ (c .before .before .before .before .before .before .before .before .before .search .ensures) (c .before .answer .given .1))
+mul-result c = omega (arith, plan-small _ (c .before .before .before .before .before .before .before .before .before .search .ensures) (ap plannedOutcome (c .before .answer .given .1)))
 
 add-result : tie.Need-add-result
-add-result c = omega (arith, plan-small _ (c .before .before .before .before .before .before .before .before .before .search .ensures) (c .before .answer .given .1))
+add-result c = omega (arith, plan-small _ (c .before .before .before .before .before .before .before .before .before .search .ensures) (ap plannedOutcome (c .before .answer .given .1)))
 
 same-length-7 : tie.Need-same-length-7
 same-length-7 c = search needs
@@ -65,7 +66,7 @@ same-length-9 : tie.Need-same-length-9
 same-length-9 c = search needs
 
 returns-3 : tie.Need-returns-3
-returns-3 c = record { answer = _; searched = c .before .before .before .before .before .before .before .before .before .search .ensures; tells = sym (ap plannedNumber (c .before .answer .given .1)) }
+returns-3 c = record { answer = c .before .before .before .before .before .before .before .before .before .search .result; searched = c .before .before .before .before .before .before .before .before .before .search .ensures; tells = sym (ap plannedNumber (c .before .answer .given .1)) }
 
 pub tivelgor-search-spec : {M : Type 1} → statement M
 tivelgor-search-spec =

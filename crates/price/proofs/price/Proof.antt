@@ -1,6 +1,7 @@
 use lib.ListN.{length-take}
 use native.Mathlib.Omega.{arith}
 use mathlib.Core.Path.{refl, ap}
+use Rattle.rules.specs.Answers.{pricedOutcome}
 use Rattle.rules.specs.declared.Request.{Request}
 use Rattle.rules.proofs.SoundRequestLaws.{records-sound, value-sound}
 use Rattle.records.proofs.RequestLaws.{request-verdict, request-accepted, request-value}
@@ -49,7 +50,7 @@ write-requires c κs =
     let told = c .before .before .enum-told2 .given .1 in
     let few = rw (← (request-value _ _ (c .before .before .before .before .before .before .before .before .before .read-request .ensures) (c .before .before .before .before .before .before .before .enum-told .given .1))) at (value-sound _ _ request .riders) in (
       few,
-      omega (arith, simp length-take at (rw told at (meeting-count (c .before .before .before .before .price-route .ensures) told))),
+      omega (arith, simp length-take at (rw told at (meeting-count (c .before .before .before .before .price-route .ensures) (ap pricedOutcome told)))),
       c .before .before .before .before .before .if1 .left,
     )
 

@@ -3,7 +3,7 @@ use native.Mathlib.Omega.{arith}
 use mathlib.Core.Path.{_∙_, sym}
 use Rattle.rules.proofs.SoundRequestLaws.{records-sound, value-sound}
 use Rattle.records.proofs.RequestLaws.{request-verdict, request-accepted, request-value}
-use Rattle.search.proofs.EntryLaws.{records-refused, rooms-refused, roomy, searched}
+use Rattle.search.proofs.EntryLaws.{records-refused, rooms-refused, rooms-accepted, searched}
 use borrow.Author.Needs.{needs}
 use Rattle.search.proofs.search.Statement.{statement}
 use Rattle.search.proofs.search.Tie as tie
@@ -43,8 +43,12 @@ plan-requires : tie.Need-plan-requires
 plan-requires c κs =
     let (network, request) = records-sound _ _ (request-accepted _ _ (c .before .before .before .before .before .before .before .before .before .before .read-request .ensures) (c .before .before .before .before .before .before .before .before .enum-told .given .1)) in
     rw (request-value _ _ (c .before .before .before .before .before .before .before .before .before .before .read-request .ensures) (c .before .before .before .before .before .before .before .before .enum-told .given .1))
-    (roomy _ _ _ network (value-sound _ _ request)
-    (rw (c .before .before .before .before .before .before .node-count .ensures .value, (request-value _ _ (c .before .before .before .before .before .before .before .before .before .before .read-request .ensures) (c .before .before .before .before .before .before .before .before .enum-told .given .1))) at (sym (c .before .before .before .before .before .rooms-verdict .ensures) ∙ c .before .before .before .enum-told2 .given .1)))
+    (record {
+      sound = network;
+      request = value-sound _ _ request;
+      enough = rooms-accepted _ _ _
+          (rw (c .before .before .before .before .before .before .node-count .ensures .value, (request-value _ _ (c .before .before .before .before .before .before .before .before .before .before .read-request .ensures) (c .before .before .before .before .before .before .before .before .enum-told .given .1))) at (sym (c .before .before .before .before .before .rooms-verdict .ensures) ∙ c .before .before .before .enum-told2 .given .1));
+    })
 
 same-length : tie.Need-same-length
 same-length c = search needs

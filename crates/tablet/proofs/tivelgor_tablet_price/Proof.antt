@@ -2,7 +2,8 @@ use native.Mathlib.Omega.{arith}
 use Prim.Native.Nat.{ℕ}
 use native.Mathlib.Omega.{arith}
 use mathlib.Core.Path.{_≡_, sym, _∙_, ap}
-use Rattle.rules.specs.Answers.{tabletNumber}
+use Rattle.rules.specs.Answers.{pricedOutcome, tabletNumber}
+use Rattle.rules.specs.declared.Priced.{Priced}
 use borrow.Author.Needs.{needs}
 use Rattle.tablet.proofs.tivelgor_tablet_price.Statement.{statement}
 use Rattle.tablet.proofs.tivelgor_tablet_price.Tie as tie
@@ -34,7 +35,7 @@ add-result c = search needs
 returns-2 : tie.Need-returns-2
 returns-2 c =
     let so = c .before .before .before .before .before .before .before .tablet-answer .ensures in
-    record { answer = _; meetings = so .meetings; pricing = so .pricing; tells = sym (ap tabletNumber (c .before .before .before .before .before .answer2 .given .1 ∙ c .before .before .answer3 .given .1)) }
+    record { answer = _; meetings = so .meetings; pricing = so .pricing; tells = sym (ap (λ (a : Priced). tabletNumber (pricedOutcome a)) (c .before .before .before .before .before .answer2 .given .1 ∙ c .before .before .answer3 .given .1)) }
 
 returns-3 : tie.Need-returns-3
 returns-3 c =

@@ -3,7 +3,7 @@ use native.Mathlib.Omega.{arith}
 use lib.Pow.{pow-pos}
 use Rattle.table.proofs.DistanceLaws.{distances-walked}
 use Rattle.search.proofs.StepLaws.{value-ready}
-use Rattle.search.proofs.PlanLaws.{known, answer-24, planning, answer-plan}
+use Rattle.search.proofs.PlanLaws.{ready, known, answer-24, planning, answer-plan}
 use borrow.Author.Needs.{needs}
 use Rattle.search.proofs.inner.plan.Statement.{statement}
 use Rattle.search.proofs.inner.plan.Tie as tie
@@ -12,7 +12,7 @@ fill-distances-requires : tie.Need-fill-distances-requires
 fill-distances-requires c κs = search needs
 
 fill-table-requires : tie.Need-fill-table-requires
-fill-table-requires c κs = (distances-walked (c .before .before .before .before .before .before .before .before .before .before .pre .ready) (c .before .before .before .before .fill-distances .ensures), c .before .before .before .before .before .before .before .before .before .before .pre .places)
+fill-table-requires c κs = (distances-walked (ready (c .before .before .before .before .before .before .before .before .before .before .pre)) (c .before .before .before .before .fill-distances .ensures), c .before .before .before .before .before .before .before .before .before .before .pre .enough .table)
 
 cast-rider-bit : tie.Need-cast-rider-bit
 cast-rider-bit c = search needs
@@ -26,7 +26,7 @@ sub-value c = omega (arith, c .rider-bit .ensures, pow-pos (c .before .before .b
 value-requires : tie.Need-value-requires
 value-requires c κs =
     value-ready (known (c .before .before .before .before .before .before .before .before .before .before .before .before .before .before .before .before .pre) (c .before .before .before .before .before .before .before .before .before .before .fill-distances .ensures) (c .before .before .before .before .before .fill-table .ensures)) (omega (arith, c .rider-bit .ensures, pow-pos (c .before .before .before .before .before .before .before .before .before .before .before .before .before .before .before .before .args .q .count)))
-    (c .before .before .before .before .before .before .before .before .before .before .before .before .before .before .before .before .pre .ready .request .starts)
+    (c .before .before .before .before .before .before .before .before .before .before .before .before .before .before .before .before .pre .request .starts)
 
 same-length : tie.Need-same-length
 same-length c = search needs
