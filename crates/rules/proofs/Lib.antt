@@ -1,4 +1,4 @@
--- Laws of the definitions: how checks run in their order, what acceptance gives, how large refusals are, and that any two results that satisfy a promise agree.
+-- Laws of the definitions: how checks run in their order, what acceptance gives, how large refusals are, that any two results that satisfy a promise agree, and that a refusal keeps the rooms.
 pub mod Order
 pub mod TestLaws
 pub mod OpeningLaws
@@ -11,3 +11,4 @@ pub mod PriceLaws
 pub mod PlanLaws
 pub mod RoomLaws
 pub mod AnswerLaws
+pub mod Keeping
