@@ -26,15 +26,17 @@ pub data Outcome : Type 0 where
   gives : (values : List ℕ) → Outcome
   refuses : (number place : ℕ) → Outcome
 
--- what each case of an answer is: of walking ("It answers 0, or its refusal with its place."), of pricing, and of the search ("either a cost with its step count or a refusal with its place")
+-- The number and the values of each case of an answer: of a verdict, "0, or its refusal with its place";
 abbrev pub verdictOutcome : Verdict → Outcome
 verdictOutcome Accepted = gives (0 ∷ [])
 verdictOutcome (NotAccepted r) = refuses (r .number) (r .place)
 
+-- of pricing, the price;
 abbrev pub pricedOutcome : Priced → Outcome
 pricedOutcome (Costs price) = gives (price ∷ [])
 pricedOutcome (NotPriced r) = refuses (r .number) (r .place)
 
+-- of the search, "either a cost with its step count or a refusal with its place".
 abbrev pub plannedOutcome : Planned → Outcome
 plannedOutcome (Found cost count) = gives (cost ∷ count ∷ [])
 plannedOutcome (NotPlanned r) = refuses (r .number) (r .place)

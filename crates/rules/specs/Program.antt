@@ -71,7 +71,7 @@ stepLines network distances v [] = []
 stepLines network distances v (step ∷ steps) =
     stepLine network distances v step ++ stepLines network distances (nodeAfter network v step) steps
 
--- "`ok` cost steps", then a line for each step. "A refusal prints `refused` number place."
+-- "`ok` cost steps", then a line for each of so many steps. "A refusal prints `refused` number place."
 unfoldable pub printed : List ℕ → ℕ → Outcome → List ℕ → List ℕ → List ℕ
 printed network source (gives values) distances steps =
     line okWord values ++ stepLines network distances source (take (getD values 1 0) steps)
