@@ -19,7 +19,7 @@ use Rattle.finish.proofs.Bounds.{least-holds, unpacks}
 use Rattle.right.proofs.Reading.{reading-start}
 use Rattle.cases.proofs.Tests.{Says, passes}
 use Rattle.cases.proofs.Certificate.{tableTest, priceTest, accepts, resultTest, caseTest, certified, pricedAt}
-use Rattle.cases.specs.Cases.{Result, plan, none, Case, asked, distanceAt, Right, Holds, Row}
+use Rattle.cases.specs.Cases.{Result, plan, none, Case, asked, rowDistance, Right, Holds, AtRow}
 use Rattle.cases.proofs.TestLaws.{and-both, decides}
 use Rattle.cases.proofs.DistanceLaws.{distances-hold}
 use Rattle.cases.proofs.MoveLaws.{Walking}
@@ -52,7 +52,7 @@ holds c e =
     let ((distanceSize, tableSize), (walks, (table, result))) = decides (caseTest c) .0 rest in
     let (sound, request) = records-sound (c .network) (c .request) accepted in
     let value = value-sound (nodeCount (c .network)) (c .request) request in
-    let walking : Walking (c .network) (asked c) (distanceAt c) = λ j v h g. distances-hold sound (walks j h) g in
+    let walking : Walking (c .network) (asked c) (rowDistance c) = λ j v h g. distances-hold sound (walks j h) g in
     record {
       accepted = accepted;
       distanceSize = distanceSize;
@@ -63,7 +63,7 @@ holds c e =
     }
 
 -- a whole table at once
-pub every-holds : (cs : List Case) → map certified cs ≡ map (λ c. true) cs → (i : ℕ) → Row Holds cs i
+pub every-holds : (cs : List Case) → map certified cs ≡ map (λ c. true) cs → (i : ℕ) → AtRow Holds cs i
 every-holds [] e i = tt
 every-holds (c ∷ cs) e zero = holds c (cc)
 every-holds (c ∷ cs) e (suc i) = every-holds cs (cc) i
@@ -73,4 +73,4 @@ pub case-priced : {c : Case} → Holds c → (route meetings : List ℕ) {price 
 unfolding pricedAt
 case-priced {c} so route meetings e =
     let (sound, request) = records-sound (c .network) (c .request) (so .accepted) in
-    priced sound (value-sound (nodeCount (c .network)) (c .request) request) (so .distances) route meetings (decides (priceTest (c .network) (asked c) (distanceAt c) route meetings _) .0 e)
+    priced sound (value-sound (nodeCount (c .network)) (c .request) request) (so .distances) route meetings (decides (priceTest (c .network) (asked c) (rowDistance c) route meetings _) .0 e)

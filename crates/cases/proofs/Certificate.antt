@@ -17,7 +17,7 @@ use Rattle.rules.specs.declared.Verdict.{Verdict}
 use Rattle.rules.specs.declared.Verdict.the-variants.{Accepted, Refused}
 use Rattle.finish.specs.Packed.{packedStep}
 use Rattle.right.specs.Reading.{planValue}
-use Rattle.cases.specs.Cases.{Result, plan, none, Case, asked, distanceAt, valueAt}
+use Rattle.cases.specs.Cases.{Result, plan, none, Case, asked, rowDistance, rowValue}
 use Rattle.cases.proofs.Tests.{Test, atMost, below, same, both, either, given, each, some, allBelow, anyBelow, passes}
 
 -- ---- walking distances from a start: d v is the one to v
@@ -156,7 +156,7 @@ module _ (network : List ℕ) (q : Request) (D T : ℕ → ℕ → ℕ) where
 abbrev pub caseTest : Case → Test
 caseTest c =
     both (both (same (length (c .distances)) (distancePlaces (nodeCount (c .network)) (asked c .count))) (same (length (c .table)) (tablePlaces (nodeCount (c .network)) (asked c .count))))
-    (rulesTest (c .network) (asked c) (distanceAt c) (valueAt c) (c .result))
+    (rulesTest (c .network) (asked c) (rowDistance c) (rowValue c) (c .result))
 
 unfoldable pub certified : Case → Bool
 unfolding firstOf checks number openingChecks sizeChecks networkChecks countChecks nodeChecks weightChecks requestChecks requestVerdict sevenPlaces requestValue allBelow anyBelow passes readsTest
@@ -165,4 +165,4 @@ certified c = accepts (requestVerdict (c .network) (c .request)) && passes (case
 -- the price of a route, by the distances of a case
 unfoldable pub pricedAt : Case → List ℕ → List ℕ → ℕ → Bool
 unfolding number sevenPlaces requestValue allBelow passes nodeAt sum routeTest driven
-pricedAt c route meetings price = passes (priceTest (c .network) (asked c) (distanceAt c) route meetings price)
+pricedAt c route meetings price = passes (priceTest (c .network) (asked c) (rowDistance c) route meetings price)

@@ -24,7 +24,7 @@ use Rattle.rules.proofs.PlanLaws.{holds-finish-unique}
 use Rattle.rules.proofs.AnswerLaws.{searched-unique}
 use Rattle.finish.proofs.Bounds.{unpacks}
 use Rattle.cases.specs.Cases.{Result, plan, none, Case, asked, Right, Holds}
-use Rattle.cases.specs.Searches.{answerOf, stepsOf, Roomy, zeros, over, filled, SearchedCase, Fails, Told}
+use Rattle.cases.specs.Searches.{answerOf, stepsOf, EnoughFor, zeros, over, filled, SearchedCase, Fails, Told}
 
 -- place i of row j is below rows times places
 place-below : {j rows i places : ℕ} → j < rows → i < places → j * places + i < rows * places
@@ -37,10 +37,10 @@ over-kept values room e h =
       later = rw (← e) (drop-append-seam values (drop (length values) room));
     }
 
-pub zeros-roomy : (c : Case) → Roomy c (zeros c)
-zeros-roomy c = record { distances = rw length-replicate (le-refl _); table = rw length-replicate (le-refl _); steps = rw length-replicate (le-refl _) }
+pub zeros-enough : (c : Case) → EnoughFor c (zeros c)
+zeros-enough c = record { distances = rw length-replicate (le-refl _); table = rw length-replicate (le-refl _); steps = rw length-replicate (le-refl _) }
 
-module _ {c : Case} (holds : Holds c) {before : Lent} (roomy : Roomy c before) where
+module _ {c : Case} (holds : Holds c) {before : Lent} (roomy : EnoughFor c before) where
   room-accepted : firstOf (searchChecks (c .network) (c .request) (length (before .distances)) (length (before .table)) (length (before .steps))) ≡ Accepted
   unfolding firstOf requestVerdict
   room-accepted =

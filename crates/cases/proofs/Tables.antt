@@ -3,7 +3,7 @@ use Prim.Native.Nat.{ℕ}
 use mathlib.Core.Path.{_≡_, refl}
 use mathlib.Core.Bool.{true}
 use mathlib.Core.List.{map}
-use Rattle.cases.specs.Cases.{Holds, Row}
+use Rattle.cases.specs.Cases.{Holds, AtRow}
 use Rattle.cases.specs.TownRows.{townRows}
 use Rattle.cases.specs.OwnRows.{ownRows}
 use Rattle.cases.proofs.Certificate.{certified}
@@ -14,7 +14,7 @@ unfolding certified
 town-certified = refl
 
 -- Cases A to K: row 0 is A, row 10 is K.
-pub town-holds : (i : ℕ) → Row Holds townRows i
+pub town-holds : (i : ℕ) → AtRow Holds townRows i
 town-holds = every-holds townRows town-certified
 
 own-certified : map certified ownRows ≡ map (λ c. true) ownRows
@@ -22,5 +22,5 @@ unfolding certified
 own-certified = refl
 
 -- The cases beside them.
-pub own-holds : (i : ℕ) → Row Holds ownRows i
+pub own-holds : (i : ℕ) → AtRow Holds ownRows i
 own-holds = every-holds ownRows own-certified

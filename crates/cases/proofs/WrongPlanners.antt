@@ -14,25 +14,25 @@ use Rattle.rules.proofs.PriceLaws.{price-unique}
 use Rattle.rules.proofs.PlanLaws.{right-plan-unique}
 use Rattle.right.specs.Steps.{drivesOf}
 use Rattle.cases.specs.Cases.{plan, none, asked}
-use Rattle.cases.specs.Searches.{Roomy, zeros, SearchedCase, Fails, Planner, replyAt, Answers, Keeps, NoNodeTwice, EndsAtTarget}
+use Rattle.cases.specs.Searches.{EnoughFor, zeros, SearchedCase, Fails, Planner, replyAt, Answers, Keeps, NoNodeTwice, EndsAtTarget}
 use Rattle.cases.specs.TownRows.{rowA, rowB, rowC, rowF, rowJ}
 use Rattle.cases.specs.OwnRows.{beyondTarget, twoLinks, nearTwice, oneForTwo, offTheRoad, wideCosts, closedWalk, wallOpened}
 use Rattle.cases.proofs.Certificate.{pricedAt}
 use Rattle.cases.proofs.CaseLaws.{case-priced}
-use Rattle.cases.proofs.SearchLaws.{zeros-roomy, searched-case, sameResult, fails}
+use Rattle.cases.proofs.SearchLaws.{zeros-enough, searched-case, sameResult, fails}
 use Rattle.cases.proofs.Tables.{town-holds, own-holds}
 
 -- ---- the planners that document 01 has the promises tried on, whatever they answer at other inputs
 module _ (p : Planner) where
   -- One that refuses everything, at case A.
-  pub refuses-everything : (number place : ℕ) (before : Lent) → Roomy rowA before → Answers p rowA before (refuses number place) → Keeps p rowA before → ⊥
+  pub refuses-everything : (number place : ℕ) (before : Lent) → EnoughFor rowA before → Answers p rowA before (refuses number place) → Keeps p rowA before → ⊥
   refuses-everything number place before roomy e keeps =
       let right = searched-case (town-holds 0) roomy keeps .1 in
       let z : _≡_ {A = ℕ} 0 1 = cc in
       omega arith
 
   -- One that gives sound records a fixed plan, at case A or at case B,
-  pub fixed-plan : (cost count : ℕ) (a b : Lent) → Roomy rowA a → Roomy rowB b → Answers p rowA a (gives (cost ∷ count ∷ [])) → Answers p rowB b (gives (cost ∷ count ∷ [])) → Keeps p rowA a → Keeps p rowB b → ⊥
+  pub fixed-plan : (cost count : ℕ) (a b : Lent) → EnoughFor rowA a → EnoughFor rowB b → Answers p rowA a (gives (cost ∷ count ∷ [])) → Answers p rowB b (gives (cost ∷ count ∷ [])) → Keeps p rowA a → Keeps p rowB b → ⊥
   fixed-plan cost count a b roomy wide e f keeps kept =
       let right = searched-case (town-holds 0) roomy keeps .1 in
       let other = searched-case (town-holds 1) wide kept .1 in
@@ -40,7 +40,7 @@ module _ (p : Planner) where
       omega arith
 
   -- and whichever plan it is, at case F.
-  pub fixed-plan-at-F : (cost count : ℕ) (before : Lent) → Roomy rowF before → Answers p rowF before (gives (cost ∷ count ∷ [])) → Keeps p rowF before → ⊥
+  pub fixed-plan-at-F : (cost count : ℕ) (before : Lent) → EnoughFor rowF before → Answers p rowF before (gives (cost ∷ count ∷ [])) → Keeps p rowF before → ⊥
   fixed-plan-at-F cost count before roomy e keeps =
       let right = searched-case (town-holds 5) roomy keeps .1 in
       let z : _≡_ {A = ℕ} 0 1 = cc in
@@ -50,7 +50,7 @@ module _ (p : Planner) where
   pub writes-nothing : replyAt p rowA (zeros rowA) .after ≡ zeros rowA → Keeps p rowA (zeros rowA) → ⊥
   unfolding number requestValue
   writes-nothing kept keeps =
-      let right = searched-case (town-holds 0) (zeros-roomy rowA) keeps .0 in
+      let right = searched-case (town-holds 0) (zeros-enough rowA) keeps .0 in
       let z : _≡_ {A = ℕ} 0 32771 = ap (λ (l : Lent). getD (l .table) 5 0) (sym kept ∙ right) in
       omega arith
 
@@ -78,7 +78,7 @@ one-weight-for-all so = elim (so .pricing) [
 ]
 
 -- One whose step count is invented, at case A. Of every input `count-told` says what it must be.
-pub invents-the-count : (cost count : ℕ) → count ≢ 3 → (before after : Lent) → Roomy rowA before → SearchedCase rowA before after (gives (cost ∷ count ∷ [])) → ⊥
+pub invents-the-count : (cost count : ℕ) → count ≢ 3 → (before after : Lent) → EnoughFor rowA before → SearchedCase rowA before after (gives (cost ∷ count ∷ [])) → ⊥
 invents-the-count cost count other before after roomy s =
     let right = searched-case (town-holds 0) roomy s .1 in
     other (cc)

@@ -28,11 +28,11 @@ pub record Case : Type 0 where
 abbrev pub asked : Case → Request
 asked c = requestValue (c .request)
 
-abbrev pub distanceAt : Case → ℕ → ℕ → ℕ
-distanceAt c j v = getD (c .distances) (j * nodeCount (c .network) + v) 0
+abbrev pub rowDistance : Case → ℕ → ℕ → ℕ
+rowDistance c j v = getD (c .distances) (j * nodeCount (c .network) + v) 0
 
-abbrev pub valueAt : Case → ℕ → ℕ → ℕ
-valueAt c R v = getD (c .table) (R * nodeCount (c .network) + v) 0
+abbrev pub rowValue : Case → ℕ → ℕ → ℕ
+rowValue c R v = getD (c .table) (R * nodeCount (c .network) + v) 0
 
 -- the place of a best finish
 abbrev pub best : ℕ → ℕ → ℕ
@@ -48,12 +48,12 @@ pub record Holds (c : Case) : Type 0 where
   pub accepted : requestVerdict (c .network) (c .request) ≡ Accepted
   pub distanceSize : length (c .distances) ≡ distancePlaces (nodeCount (c .network)) (asked c .count)
   pub tableSize : length (c .table) ≡ tablePlaces (nodeCount (c .network)) (asked c .count)
-  pub distances : (j v : ℕ) → j < asked c .count → v < nodeCount (c .network) → HoldsDistance (c .network) (riderNodeOf (asked c) j) v (distanceAt c j v)
-  pub table : (R v : ℕ) → R < 2 ^ asked c .count → v < nodeCount (c .network) → HoldsFinish (c .network) (asked c) R v (valueAt c R v)
+  pub distances : (j v : ℕ) → j < asked c .count → v < nodeCount (c .network) → HoldsDistance (c .network) (riderNodeOf (asked c) j) v (rowDistance c j v)
+  pub table : (R v : ℕ) → R < 2 ^ asked c .count → v < nodeCount (c .network) → HoldsFinish (c .network) (asked c) R v (rowValue c R v)
   pub result : Right (c .network) (asked c) (c .result)
 
 -- a claim of the case at place i of a table, if there is one
-abbrev pub Row : (Case → Type 0) → List Case → ℕ → Type 0
-Row P [] i = Unit
-Row P (c ∷ cs) zero = P c
-Row P (c ∷ cs) (suc i) = Row P cs i
+abbrev pub AtRow : (Case → Type 0) → List Case → ℕ → Type 0
+AtRow P [] i = Unit
+AtRow P (c ∷ cs) zero = P c
+AtRow P (c ∷ cs) (suc i) = AtRow P cs i

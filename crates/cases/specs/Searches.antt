@@ -30,8 +30,8 @@ tableNeed c = tablePlaces (nodeCount (c .network)) (asked c .count)
 abbrev pub stepNeed : Case → ℕ
 stepNeed c = stepPlaces (nodeCount (c .network)) (asked c .count)
 
-abbrev pub Roomy : Case → Lent → Type 0
-Roomy c before = Enough (nodeCount (c .network)) (asked c .count) before
+abbrev pub EnoughFor : Case → Lent → Type 0
+EnoughFor c before = Enough (nodeCount (c .network)) (asked c .count) before
 
 -- rooms of exactly so many places, all zero
 abbrev pub zeros : Case → Lent
@@ -59,7 +59,7 @@ SearchedCase c before after answer = Searched (c .network) (c .request) before a
 
 -- No search of the case that keeps its promise ends with this result.
 abbrev pub Fails : Case → Result → Type 0
-Fails c wrong = (before after : Lent) → Roomy c before → SearchedCase c before after (answerOf wrong) → Written (stepsOf wrong) (before .steps) (after .steps) → ⊥
+Fails c wrong = (before after : Lent) → EnoughFor c before → SearchedCase c before after (answerOf wrong) → Written (stepsOf wrong) (before .steps) (after .steps) → ⊥
 
 -- What answers every search: an answer, and what it leaves in the rooms.
 pub record Reply : Type 0 where

@@ -19,24 +19,24 @@ use Rattle.desk.specs.Numbers.{refusalNumber, verdictNumber, networkNumb
 use Rattle.desk.proofs.Numbers.{accepted-tells, refused-tells, network-refusal, network-sizes, request-refusal, walk-refusal, price-refusal, plan-refusal, plan-small}
 
 -- ---- any two results agree
-pub network-settled : (s : List ℕ) {x y : ℕ} → x ≡ networkNumber (networkOf s) → y ≡ networkNumber (networkOf s) → x ≡ y
-network-settled s p q = p ∙ sym q
+pub network-told-unique : (s : List ℕ) {x y : ℕ} → x ≡ networkNumber (networkOf s) → y ≡ networkNumber (networkOf s) → x ≡ y
+network-told-unique s p q = p ∙ sym q
 
-pub request-settled : (network s : List ℕ) {x y : ℕ} → x ≡ requestNumber (requestOf network s) → y ≡ requestNumber (requestOf network s) → x ≡ y
-request-settled network s p q = p ∙ sym q
+pub request-told-unique : (network s : List ℕ) {x y : ℕ} → x ≡ requestNumber (requestOf network s) → y ≡ requestNumber (requestOf network s) → x ≡ y
+request-told-unique network s p q = p ∙ sym q
 
-pub walk-settled : {network : List ℕ} {start : ℕ} {before a b : List ℕ} {x y : ℕ} → WalkTold network start before a x → WalkTold network start before b y → (a ≡ b) × (x ≡ y)
-walk-settled s t =
+pub walk-told-unique : {network : List ℕ} {start : ℕ} {before a b : List ℕ} {x y : ℕ} → WalkTold network start before a x → WalkTold network start before b y → (a ≡ b) × (x ≡ y)
+walk-told-unique s t =
     let (room, answer) = walked-unique (s .walked) (t .walked) in
     (room, s .tells ∙ ap (λ (v : Verdict). verdictNumber v 0) (verdict-told-apart (s .answer) (t .answer) answer) ∙ sym (t .tells))
 
-pub price-settled : {network request route before a b : List ℕ} {x y : ℕ} → PriceTold network request route before a x → PriceTold network request route before b y → (a ≡ b) × (x ≡ y)
-price-settled s t =
+pub price-told-unique : {network request route before a b : List ℕ} {x y : ℕ} → PriceTold network request route before a x → PriceTold network request route before b y → (a ≡ b) × (x ≡ y)
+price-told-unique s t =
     let (room, answer) = priced-route-unique (s .priced) (t .priced) in
     (room, s .tells ∙ ap pricedNumber (priced-told-apart (s .answer) (t .answer) answer) ∙ sym (t .tells))
 
-pub plan-settled : {network : List ℕ} (request : List ℕ) {before a b : Lent} {x y : ℕ} → PlanTold network request before a x → PlanTold network request before b y → (a ≡ b) × (x ≡ y)
-plan-settled request s t =
+pub plan-told-unique : {network : List ℕ} (request : List ℕ) {before a b : Lent} {x y : ℕ} → PlanTold network request before a x → PlanTold network request before b y → (a ≡ b) × (x ≡ y)
+plan-told-unique request s t =
     let (rooms, answer) = searched-unique request (s .searched) (t .searched) in
     (rooms, s .tells ∙ ap plannedNumber (planned-told-apart (s .answer) (t .answer) answer) ∙ sym (t .tells))
 
@@ -69,13 +69,13 @@ plan-value request so told =
 -- ---- a refusal's number is not, and tells its place and number
 
 -- the place and the number of a refusal, read off what it is told by
-pub record Reads (number : ℕ) (r : Refusal) : Type 0 where
+pub record TellsRefusal (number : ℕ) (r : Refusal) : Type 0 where
   pub high : 2 ^ 63 ≤ number
   pub fits : number < 2 ^ 64
   pub place : (number - 2 ^ 63) / 65536 ≡ r .place
   pub kind : number % 65536 ≡ r .number
 
-reads : {r : Refusal} {number : ℕ} → Small 65536 r → number ≡ refusalNumber r → Reads number r
+reads : {r : Refusal} {number : ℕ} → Small 65536 r → number ≡ refusalNumber r → TellsRefusal number r
 reads small told =
     record {
       high = omega arith;
@@ -84,17 +84,17 @@ reads small told =
       kind = omega (arith, small .number);
     }
 
-pub network-refused : (s : List ℕ) {number : ℕ} {r : Refusal} → number ≡ networkNumber (networkOf s) → networkOf s .verdict ≡ NotAccepted r → Reads number r
+pub network-refused : (s : List ℕ) {number : ℕ} {r : Refusal} → number ≡ networkNumber (networkOf s) → networkOf s .verdict ≡ NotAccepted r → TellsRefusal number r
 network-refused s so told = reads (network-refusal s refl _ told) (so ∙ sym (refused-tells _ told))
 
-pub request-refused : (network s : List ℕ) {number : ℕ} {r : Refusal} → number ≡ requestNumber (requestOf network s) → requestOf network s .verdict ≡ NotAccepted r → Reads number r
+pub request-refused : (network s : List ℕ) {number : ℕ} {r : Refusal} → number ≡ requestNumber (requestOf network s) → requestOf network s .verdict ≡ NotAccepted r → TellsRefusal number r
 request-refused network s so told = reads (request-refusal network s refl _ told) (so ∙ sym (refused-tells _ told))
 
-pub walk-refused : {network : List ℕ} {start : ℕ} {before after : List ℕ} {number : ℕ} {r : Refusal} (so : WalkTold network start before after number) → so .answer ≡ NotAccepted r → Reads number r
+pub walk-refused : {network : List ℕ} {start : ℕ} {before after : List ℕ} {number : ℕ} {r : Refusal} (so : WalkTold network start before after number) → so .answer ≡ NotAccepted r → TellsRefusal number r
 walk-refused so told = reads (walk-refusal (so .walked) _ (ap verdictOutcome told)) (so .tells ∙ sym (refused-tells 0 told))
 
-pub price-refused : {network request route before after : List ℕ} {number : ℕ} {r : Refusal} (so : PriceTold network request route before after number) → so .answer ≡ NotPriced r → Reads number r
+pub price-refused : {network request route before after : List ℕ} {number : ℕ} {r : Refusal} (so : PriceTold network request route before after number) → so .answer ≡ NotPriced r → TellsRefusal number r
 price-refused so told = reads (price-refusal (so .priced) _ (ap pricedOutcome told)) (so .tells ∙ ap pricedNumber told)
 
-pub plan-refused : {network : List ℕ} (request : List ℕ) {before after : Lent} {number : ℕ} {r : Refusal} (so : PlanTold network request before after number) → so .answer ≡ NotPlanned r → Reads number r
+pub plan-refused : {network : List ℕ} (request : List ℕ) {before after : Lent} {number : ℕ} {r : Refusal} (so : PlanTold network request before after number) → so .answer ≡ NotPlanned r → TellsRefusal number r
 plan-refused request so told = reads (plan-refusal request (so .searched) _ (ap plannedOutcome told)) (so .tells ∙ ap plannedNumber told)

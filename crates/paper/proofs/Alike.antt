@@ -7,24 +7,24 @@ use Rattle.rules.specs.Network.{walk}
 use Rattle.rules.specs.Walks.{Leads, Way, arrived, along}
 use Rattle.rules.specs.Routes.{Route, nodeAt, RiderWalks, Meeting, Price}
 use Rattle.rules.specs.declared.Request.{Request}
-use Rattle.paper.specs.Alike.{SameLinks, SameDriving, SameWalking, Known, SameOnRoute, SameDistances, SameButWalk, Needless}
+use Rattle.paper.specs.Alike.{SameLinks, SameDriving, SameWalking, KnownLinks, SameOnRoute, SameDistances, SameButWalk, Needless}
 use Rattle.paper.proofs.Ways.{way-same}
 use Rattle.paper.proofs.Distances.{links-back, leads-same, walking-same, needless-same}
 
-way-known : {network : List ℕ} {cost : ℕ → ℕ} {u v c : ℕ} {links : List ℕ} → Way (Leads network cost) v u links c → Known network links
+way-known : {network : List ℕ} {cost : ℕ → ℕ} {u v c : ℕ} {links : List ℕ} → Way (Leads network cost) v u links c → KnownLinks network links
 way-known (arrived here free) k on = absurd (List·Memᴰ·not-nil on)
 way-known (along x w rest link way e) k (List·Memᴰ·head is) = rw is (link .exists)
 way-known (along x w rest link way e) k (List·Memᴰ·tail on) = way-known way k on
 
 module _ {a b : List ℕ} (s : SameLinks a b) where
   -- Links pass the same nodes in both networks.
-  nodes-same : (u : ℕ) (links : List ℕ) → Known a links → (position : ℕ) → nodeAt a u links position ≡ nodeAt b u links position
+  nodes-same : (u : ℕ) (links : List ℕ) → KnownLinks a links → (position : ℕ) → nodeAt a u links position ≡ nodeAt b u links position
   unfolding nodeAt
   nodes-same u links known zero = refl
   nodes-same u [] known (suc position) = refl
   nodes-same u (k ∷ links) known (suc position) = rw (s .ends k (known k (List·Memᴰ·head refl))) (nodes-same _ links (λ l on. known l (List·Memᴰ·tail on)) position)
 
-  known-back : {links : List ℕ} → Known a links → Known b links
+  known-back : {links : List ℕ} → KnownLinks a links → KnownLinks b links
   known-back known k on = rw (← s .count) (known k on)
 
   -- A route rests on the drive costs of its links alone ..
@@ -32,7 +32,7 @@ module _ {a b : List ℕ} (s : SameLinks a b) where
   route-moves q same way = way-same (λ k u v w h. leads-same s (same k h)) way
 
   -- .. a meeting on the rider's walking distances alone ..
-  meeting-moves : {q : Request} {route : List ℕ} {j p d : ℕ} → Known a route → ((v e : ℕ) → RiderWalks a q j v e ↔ RiderWalks b q j v e) → Meeting a q route j p d → Meeting b q route j p d
+  meeting-moves : {q : Request} {route : List ℕ} {j p d : ℕ} → KnownLinks a route → ((v e : ℕ) → RiderWalks a q j v e ↔ RiderWalks b q j v e) → Meeting a q route j p d → Meeting b q route j p d
   meeting-moves {q} {route} known walks m =
       let node = nodes-same (q .source) route known in
       record {
@@ -63,7 +63,7 @@ route-same q s =
     (route-moves (s .links) q same, route-moves (links-back (s .links)) q (on-route-back (s .links) same))
 
 -- Whatever happens to drive costs, the riders are met at the same positions, and walk as far.
-pub meeting-same : {a b : List ℕ} {q : Request} {route : List ℕ} {j p d : ℕ} → SameWalking a b → Known a route → Meeting a q route j p d ↔ Meeting b q route j p d
+pub meeting-same : {a b : List ℕ} {q : Request} {route : List ℕ} {j p d : ℕ} → SameWalking a b → KnownLinks a route → Meeting a q route j p d ↔ Meeting b q route j p d
 meeting-same s known = (
   meeting-moves (s .links) known (λ v e. walking-same s),
   meeting-moves (links-back (s .links)) (known-back (s .links) known) (λ v e. Iff·symm (walking-same s)),

@@ -9,7 +9,7 @@ use Rattle.rules.specs.Request.{SoundValue, riderNodeOf, riderWeightOf}
 use Rattle.rules.specs.Routes.{Route, nodeAt, Reaches, RiderWalks, Meeting, sum, Price}
 use Rattle.rules.specs.declared.Request.{Request}
 use Rattle.rules.proofs.PriceLaws.{sum-same}
-use Rattle.paper.specs.Fraction.{Fraction, times, Is, AtMost}
+use Rattle.paper.specs.Fraction.{Fraction, times, IsWhole, AtMost}
 use Rattle.paper.specs.Problem.{Graph, OneWeight, Path, stays, goes, NodeRoute, Query, average, Cost, Optimal}
 use Rattle.paper.specs.Prices.{HasPrice, NoLower}
 use Rattle.paper.specs.TwoWay.{TwoWay, graphOf, EqualWeights, queryOf, nodesOf, PricedPath}
@@ -71,7 +71,7 @@ module _ {network : List ℕ} (two : TwoWay network) {q : Request} {w : ℕ} (we
       sum-same (q .count) _ _ (λ j h. ap (λ (x : ℕ). x * walking j) (weights .riders j h)) ∙ sum-times w (q .count) walking
 
   -- The price is (a+w) × f(P), where P is the path along the route ..
-  pub price-cost : {route meetings : List ℕ} {price : ℕ} → Price network q route meetings price → (f : Fraction) × PathCost (nodesOf network route) f × Is (times f (q .weight + w)) price
+  pub price-cost : {route meetings : List ℕ} {price : ℕ} → Price network q route meetings price → (f : Fraction) × PathCost (nodesOf network route) f × IsWhole (times f (q .weight + w)) price
   price-cost p = (
     average (queryOf q w weights .alpha) (p .driving) (sum (q .count) (p .walking)),
     record { c = p .driving; d = p .walking; path = drive-path two (p .drives); near = λ j h. meeting-near two (p .meets j h); averages = refl },
@@ -79,14 +79,14 @@ module _ {network : List ℕ} (two : TwoWay network) {q : Request} {w : ℕ} (we
   )
 
   -- .. and no other number is f(P), unless links between the same nodes differ in cost.
-  pub price-is : {route meetings : List ℕ} {price : ℕ} {f : Fraction} → OneWeight (graphOf network) → Price network q route meetings price → PathCost (nodesOf network route) f → Is (times f (q .weight + w)) price
+  pub price-is : {route meetings : List ℕ} {price : ℕ} {f : Fraction} → OneWeight (graphOf network) → Price network q route meetings price → PathCost (nodesOf network route) f → IsWhole (times f (q .weight + w)) price
   price-is {price = price} one p x =
       let (g, y, is) = price-cost p in
-      subst (λ (h : Fraction). Is (times h (q .weight + w)) price) (cost-unique one y x) is
+      subst (λ (h : Fraction). IsWhole (times h (q .weight + w)) price) (cost-unique one y x) is
 
   module _ (sound : SoundNetwork network) (value : SoundValue (nodeCount network) q) where
     -- A legal route whose riders all reach it has a price, and it is (a+w) × f(P).
-    pub route-cost : {route : List ℕ} {driving : ℕ} → Route network q route driving → ((j : ℕ) → j < q .count → Reaches network q route j) → (price : ℕ) × (f : Fraction) × HasPrice network q route price × PathCost (nodesOf network route) f × Is (times f (q .weight + w)) price
+    pub route-cost : {route : List ℕ} {driving : ℕ} → Route network q route driving → ((j : ℕ) → j < q .count → Reaches network q route j) → (price : ℕ) × (f : Fraction) × HasPrice network q route price × PathCost (nodesOf network route) f × IsWhole (times f (q .weight + w)) price
     route-cost drives reaches =
         let (price, has) = route-price sound value _ drives reaches in
         let (f, x, is) = price-cost (has .prices) in
@@ -110,7 +110,7 @@ module _ {network : List ℕ} (two : TwoWay network) {q : Request} {w : ℕ} (we
         }
 
     -- A route of least price goes along a path that Definition 2.1 asks for ..
-    pub lowest-optimal : {route meetings : List ℕ} {price : ℕ} → Price network q route meetings price → NoLower network q price → (f : Fraction) × Optimal (graphOf network) (queryOf q w weights) (nodesOf network route) f × Is (times f (q .weight + w)) price
+    pub lowest-optimal : {route meetings : List ℕ} {price : ℕ} → Price network q route meetings price → NoLower network q price → (f : Fraction) × Optimal (graphOf network) (queryOf q w weights) (nodesOf network route) f × IsWhole (times f (q .weight + w)) price
     lowest-optimal {price = price} p low =
         let (f, x, is) = price-cost p in
         let least : (P : List ℕ) (g : Fraction) → PathCost P g → AtMost f g =

@@ -25,8 +25,8 @@ pub record SameWalking (a b : List ℕ) : Type 0 where
   pub walks : (k : ℕ) → k < linkCount a → walk a k ≡ walk b k
 
 -- The links exist.
-abbrev pub Known : List ℕ → List ℕ → Type 0
-Known network links = (k : ℕ) → List·Memᴰ k links → k < linkCount network
+abbrev pub KnownLinks : List ℕ → List ℕ → Type 0
+KnownLinks network links = (k : ℕ) → List·Memᴰ k links → k < linkCount network
 
 -- The links of the route cost the bus the same.
 abbrev pub SameOnRoute : List ℕ → List ℕ → List ℕ → Type 0

@@ -26,8 +26,8 @@ abbrev pub oneMinus : Fraction → Fraction
 oneMinus x = record { top = x .bottom - x .top; bottom = x .bottom; positive = x .positive }
 
 -- x = n
-abbrev pub Is : Fraction → ℕ → Type 0
-Is x n = x .top ≡ n * x .bottom
+abbrev pub IsWhole : Fraction → ℕ → Type 0
+IsWhole x n = x .top ≡ n * x .bottom
 
 -- x ≤ y
 abbrev pub AtMost : Fraction → Fraction → Type 0

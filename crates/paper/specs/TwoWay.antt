@@ -8,7 +8,7 @@ use Rattle.rules.specs.Network.{linkCount, from, to, drive, walk, closed}
 use Rattle.rules.specs.Request.{riderNodeOf, riderWeightOf}
 use Rattle.rules.specs.Walks.{Walkable}
 use Rattle.rules.specs.declared.Request.{Request}
-use Rattle.paper.specs.Fraction.{Fraction, times, Is}
+use Rattle.paper.specs.Fraction.{Fraction, times, IsWhole}
 use Rattle.paper.specs.Problem.{Graph, Query}
 use Rattle.paper.specs.Prices.{HasPrice}
 
@@ -63,4 +63,4 @@ pub record PricedPath (network : List ℕ) (q : Request) (w : ℕ) (P : List ℕ
   pub nodes : nodesOf network route ≡ P
   pub price : ℕ
   pub priced : HasPrice network q route price
-  pub is : Is (times f (q .weight + w)) price
+  pub is : IsWhole (times f (q .weight + w)) price

@@ -13,19 +13,19 @@ use Rattle.rules.specs.declared.Verdict.{Verdict}
 use Rattle.rules.specs.declared.Verdict.the-variants.{Accepted, Refused as NotAccepted}
 use Rattle.rules.proofs.Order.{passed, front-refused, front-passed}
 use Rattle.price.proofs.RouteLaws.{route-32}
-use Rattle.tablet.specs.Answer.{Answered}
+use Rattle.tablet.specs.Answer.{TabletPriced}
 use Rattle.tablet.proofs.RouteLaws.{route-size}
 
 module _ (network request bytes : List ℕ) where
-  refusal : (r : Refusal) → firstOf (tabletChecks network request bytes) ≡ NotAccepted r → Answered network request bytes (refuses (r .number) (r .place))
+  refusal : (r : Refusal) → firstOf (tabletChecks network request bytes) ≡ NotAccepted r → TabletPriced network request bytes (refuses (r .number) (r .place))
   refusal r e = record { meetings = []; pricing = refused r e refl refl }
 
-  pub records-refused : {v : Verdict} (r : Refusal) → v ≡ requestVerdict network request → v ≡ NotAccepted r → Answered network request bytes (refuses (r .number) (r .place))
+  pub records-refused : {v : Verdict} (r : Refusal) → v ≡ requestVerdict network request → v ≡ NotAccepted r → TabletPriced network request bytes (refuses (r .number) (r .place))
   unfolding requestVerdict
   records-refused r is told = refusal r (front-refused (recordChecks network request) _ r (sym is ∙ told))
 
   module _ (accepted : requestVerdict network request ≡ Accepted) where
-    pub refused-38 : (length bytes % 2 ≡ 0 → ⊥) → Answered network request bytes (refuses 38 0)
+    pub refused-38 : (length bytes % 2 ≡ 0 → ⊥) → TabletPriced network request bytes (refuses 38 0)
     unfolding requestVerdict firstOf
     refused-38 odd = refusal (refuse 38 0) (front-passed (recordChecks network request) _ accepted ∙ simp (ne-eqb _ _ odd))
 
@@ -34,8 +34,8 @@ module _ (network request bytes : List ℕ) where
       unfolding requestVerdict
       past-38 = front-passed (recordChecks network request) _ accepted ∙ passed 38 0 _ (simp (eq-eqb _ _ even))
 
-      pub refused-32 : 4095 < length bytes / 2 → Answered network request bytes (refuses 32 0)
+      pub refused-32 : 4095 < length bytes / 2 → TabletPriced network request bytes (refuses 32 0)
       refused-32 long = refusal (refuse 32 0) (past-38 ∙ route-32 network (requestValue request) (routeOf bytes) (rw route-size long))
 
-      pub priced-route : {route meetings : List ℕ} {answer : Outcome} → route ≡ routeOf bytes → Pricing (firstOf (routeChecks network (requestValue request) route)) network (requestValue request) route answer meetings → Answered network request bytes answer
+      pub priced-route : {route meetings : List ℕ} {answer : Outcome} → route ≡ routeOf bytes → Pricing (firstOf (routeChecks network (requestValue request) route)) network (requestValue request) route answer meetings → TabletPriced network request bytes answer
       priced-route {meetings = meetings} e pricing = record { meetings = meetings; pricing = rw past-38 (rw e at pricing) }

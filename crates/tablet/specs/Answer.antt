@@ -8,7 +8,7 @@ use Rattle.rules.specs.Numbers.{two}
 use Rattle.rules.specs.Request.{requestValue}
 use Rattle.rules.specs.Answers.{Outcome, Pricing, routeOf, tabletChecks}
 
-pub record Answered (network request bytes : List ℕ) (answer : Outcome) : Type 0 where
+pub record TabletPriced (network request bytes : List ℕ) (answer : Outcome) : Type 0 where
   pub meetings : List ℕ
   pub pricing : Pricing (firstOf (tabletChecks network request bytes)) network (requestValue request) (routeOf bytes) answer meetings
 

@@ -9,7 +9,7 @@ use rules::Priced;
 use rules::Refusal;
 use rules::Verdict;
 ghost use Rattle.rules.specs.Answers.{pricedOutcome, Tablet};
-ghost use Rattle.tablet.specs.Answer.{Answered};
+ghost use Rattle.tablet.specs.Answer.{TabletPriced};
 
 // Prices a route whose link numbers come as bytes, the high one first. From 2^63 on, the answer is a refusal's number.
 #[no_mangle]
@@ -29,7 +29,7 @@ pub extern "C" fn tivelgor_tablet_price(network: &[u8], request: &[u8], route: &
 
 // The price, or the refusal of the records, 38, or 32 to 37.
 fn tablet_answer(network: &[u8], request: &[u8], route: &[u8]) -> Priced
-    ensures { λ r. ⌜ Answered (now (network .entry)) (now (request .entry)) (now (route .entry)) (pricedOutcome r) ⌝ }
+    ensures { λ r. ⌜ TabletPriced (now (network .entry)) (now (request .entry)) (now (route .entry)) (pricedOutcome r) ⌝ }
 {
     let read = read_request(network, request);
     let verdict = read.verdict;
