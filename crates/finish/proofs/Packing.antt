@@ -1,4 +1,4 @@
--- A packed finish is a trip over drive arcs to where it ends or meets its first rider.
+-- A packed finish is a trip over drive arcs to where it ends or meets its first rider. Why the least packed sum is least in cost and then in steps: `least-holds` (Bounds).
 use Prim.Native.Nat.{ℕ, _+_, _*_}
 use mathlib.Core.Path.{_≡_, refl}
 use mathlib.Core.Logic.{inl, inr, _↔_}

@@ -1,0 +1,42 @@
+"""Plans case A of the depot's small town, as a host in Python does: python3 examples/desk/host.py target/libdesk.so"""
+
+import ctypes
+import sys
+from pathlib import Path
+
+REFUSED = 1 << 63
+NETWORK_LENGTH = 73
+
+desk = ctypes.CDLL(str(Path(sys.argv[1]).resolve()))
+desk.tivelgor_network.restype = ctypes.c_uint64
+desk.tivelgor_request.restype = ctypes.c_uint64
+desk.tivelgor_search.restype = ctypes.c_uint64
+
+
+def part(memory):
+    """A part of memory as the desk takes it: a pointer and a number of elements."""
+    return memory, ctypes.c_size_t(len(memory))
+
+
+def granted(answer):
+    """The answer, unless it is a refusal."""
+    if answer >= REFUSED:
+        sys.exit(f"refused {answer % 65536} at {(answer - REFUSED) // 65536}")
+    return answer
+
+
+def plan(network, request):
+    """The cost and the steps of the right plan."""
+    records = part(network) + part(request)
+    n = granted(desk.tivelgor_network(*part(network))) // 65536
+    l = granted(desk.tivelgor_request(*records))
+    distances = (ctypes.c_uint32 * max(1, l * n))()
+    table = (ctypes.c_uint64 * (2**l * n))()
+    steps = (ctypes.c_uint16 * max(1, l + (l + 1) * (n - 1)))()
+    answer = granted(desk.tivelgor_search(*records, *part(distances), *part(table), *part(steps)))
+    return answer // 4096, steps[: answer % 4096]
+
+
+records = (Path(__file__).parents[2] / "crates/plan/stdin").read_bytes()
+cost, steps = plan(records[:NETWORK_LENGTH], records[NETWORK_LENGTH:])
+print("cost", cost, "steps", *steps)
