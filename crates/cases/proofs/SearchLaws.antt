@@ -18,6 +18,7 @@ use Rattle.rules.specs.Plans.{allRiders}
 use Rattle.rules.specs.Rooms.{Kept, Distances, Table}
 use Rattle.rules.specs.Answers.{Outcome, gives, Lent, searchChecks, Searched, refused, hopeless, planned}
 use Rattle.rules.specs.declared.Verdict.the-variants.{Accepted}
+use Rattle.rules.proofs.Clash.{clash}
 use Rattle.rules.proofs.Order.{front-passed, accepted-front}
 use Rattle.rules.proofs.SoundRequestLaws.{records-sound, value-sound}
 use Rattle.rules.proofs.PlanLaws.{holds-finish-unique}
@@ -107,8 +108,8 @@ result-told (plan c xs) (plan d ys) room e f =
     let size : length xs ≡ length ys = cc in
     let steps : xs ≡ ys = sym (take-append-seam xs (drop (length xs) room)) ∙ ap (take (length xs)) f ∙ rw size (take-append-seam ys (drop (length ys) room)) in
     cc
-result-told (plan c xs) none room e f = let z : _≡_ {A = ℕ} 0 1 = cc in absurd (omega arith)
-result-told none (plan d ys) room e f = let z : _≡_ {A = ℕ} 0 1 = cc in absurd (omega arith)
+result-told (plan c xs) none room e f = clash (cc)
+result-told none (plan d ys) room e f = clash (cc)
 result-told none none room e f = refl
 
 pub fails : {c : Case} (wrong : Result) → Holds c → sameResult wrong (c .result) ≡ false → Fails c wrong
@@ -120,8 +121,8 @@ fails {c} wrong holds differ before after roomy s written =
 -- A plan's cost and step count are told by the table, whatever the input.
 pub count-told : (network request : List ℕ) {before after : Lent} {answer : Outcome} {cost count : ℕ} → answer ≡ gives (cost ∷ count ∷ []) → Searched network request before after answer → Told network request before after cost count
 unfolding requestVerdict
-count-told network request e (refused r v a same) = let z : _≡_ {A = ℕ} 0 1 = cc in absurd (omega arith)
-count-told network request e (hopeless v d t n a same) = let z : _≡_ {A = ℕ} 0 1 = cc in absurd (omega arith)
+count-told network request e (refused r v a same) = clash (cc)
+count-told network request e (hopeless v d t n a same) = clash (cc)
 count-told network request {cost = cost} {count} e (planned steps c v d t right a w) =
     let (sound, so) = records-sound network request (accepted-front (recordChecks network request) _ v) in
     let value = value-sound (nodeCount network) request so in

@@ -10,6 +10,7 @@ use Rattle.rules.specs.Request.{requestValue}
 use Rattle.rules.specs.Routes.{nodeAt, Price}
 use Rattle.rules.specs.Plans.{RightPlan}
 use Rattle.rules.specs.Answers.{gives, refuses, Lent, PricedRoute, refused, stranded, priced}
+use Rattle.rules.proofs.Clash.{clash}
 use Rattle.rules.proofs.PriceLaws.{price-unique}
 use Rattle.rules.proofs.PlanLaws.{right-plan-unique}
 use Rattle.right.specs.Steps.{drivesOf}
@@ -28,8 +29,7 @@ module _ (p : Planner) where
   pub refuses-everything : (number place : ℕ) (before : Lent) → EnoughFor rowA before → Answers p rowA before (refuses number place) → Keeps p rowA before → ⊥
   refuses-everything number place before roomy e keeps =
       let right = searched-case (town-holds 0) roomy keeps .1 in
-      let z : _≡_ {A = ℕ} 0 1 = cc in
-      omega arith
+      clash (cc)
 
   -- One that gives sound records a fixed plan, at case A or at case B,
   pub fixed-plan : (cost count : ℕ) (a b : Lent) → EnoughFor rowA a → EnoughFor rowB b → Answers p rowA a (gives (cost ∷ count ∷ [])) → Answers p rowB b (gives (cost ∷ count ∷ [])) → Keeps p rowA a → Keeps p rowB b → ⊥
@@ -43,8 +43,7 @@ module _ (p : Planner) where
   pub fixed-plan-at-F : (cost count : ℕ) (before : Lent) → EnoughFor rowF before → Answers p rowF before (gives (cost ∷ count ∷ [])) → Keeps p rowF before → ⊥
   fixed-plan-at-F cost count before roomy e keeps =
       let right = searched-case (town-holds 5) roomy keeps .1 in
-      let z : _≡_ {A = ℕ} 0 1 = cc in
-      omega arith
+      clash (cc)
 
   -- One that writes nothing, at case A: place 5 of the table stays 0.
   pub writes-nothing : replyAt p rowA (zeros rowA) .after ≡ zeros rowA → Keeps p rowA (zeros rowA) → ⊥
@@ -68,8 +67,8 @@ weighs-rider-0-price = case-priced (town-holds 9) (0 ∷ 1 ∷ []) (1 ∷ 1 ∷ 
 pub one-weight-for-all : {before after : List ℕ} → PricedRoute (rowJ .network) (rowJ .request) (0 ∷ 1 ∷ []) before after (gives (10 ∷ [])) → ⊥
 unfolding number requestValue
 one-weight-for-all so = elim (so .pricing) [
-  | refused r v e m ↦ (let z : _≡_ {A = ℕ} 0 1 = cc in omega arith)
-  | stranded j v h s l e m ↦ (let z : _≡_ {A = ℕ} 0 1 = cc in omega arith)
+  | refused r v e m ↦ clash (cc)
+  | stranded j v h s l e m ↦ clash (cc)
   | priced price v costs size e ↦ (
       let twelve = price-unique size refl costs weighs-rider-0-price .0 in
       let z : _≡_ {A = ℕ} 10 12 = cc in

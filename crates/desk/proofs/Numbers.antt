@@ -13,6 +13,7 @@ use Rattle.rules.specs.declared.NetworkRead.{NetworkRead}
 use Rattle.rules.specs.declared.RequestRead.{RequestRead}
 use Rattle.rules.specs.declared.Verdict.{Verdict}
 use Rattle.rules.specs.declared.Verdict.the-variants.{Accepted, Refused as NotAccepted}
+use Rattle.rules.proofs.Clash.{clash}
 use Rattle.rules.proofs.Order.{accepted-front}
 use Rattle.rules.proofs.AnswerLaws.{verdict-told-apart}
 use Rattle.rules.proofs.Refusals.{same-refusal, Small, network-small, records-small, search-small}
@@ -70,7 +71,7 @@ price-refusal {network} {request} {route} {before} so r told = elim (so .pricing
       let riders = both-sound network request (accepted-front (recordChecks network request) _ v) .1 .riders in
       same-small (refuse 37 j) r (record { number = omega arith; place = omega arith }) (sym e ∙ told)
       )
-  | priced p v c z e ↦ (let z : _≡_ {A = ℕ} 0 1 = cc in absurd (omega arith))
+  | priced p v c z e ↦ clash (cc)
 ]
 
 -- ---- the search
@@ -79,14 +80,14 @@ module _ {network : List ℕ} (request : List ℕ) {before after : Lent} {answer
   plan-refusal r told = elim so [
     | refused x v e m ↦ same-small x r (search-small 65536 (omega arith) network request _ _ _ .given x v) (sym e ∙ told)
     | hopeless v d t n e s ↦ same-small (refuse 24 0) r (record { number = omega arith; place = omega arith }) (sym e ∙ told)
-    | planned plan cost v d t right e w ↦ (let z : _≡_ {A = ℕ} 0 1 = cc in absurd (omega arith))
+    | planned plan cost v d t right e w ↦ clash (cc)
   ]
 
   pub plan-small : {cost count : ℕ} → answer ≡ gives (cost ∷ count ∷ []) → (cost ≤ 50231811000) × (count ≤ 4095)
   unfolding requestVerdict
   plan-small {cost} {count} told = elim so [
-    | refused x v e m ↦ (let z : _≡_ {A = ℕ} 0 1 = cc in absurd (omega arith))
-    | hopeless v d t n e w ↦ (let z : _≡_ {A = ℕ} 0 1 = cc in absurd (omega arith))
+    | refused x v e m ↦ clash (cc)
+    | hopeless v d t n e w ↦ clash (cc)
     | planned plan p v d t right e w ↦ (
         let (sound, value) = both-sound network request (accepted-front (recordChecks network request) _ v) in
         let b = right-plan-bounded sound value right in

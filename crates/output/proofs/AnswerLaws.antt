@@ -12,6 +12,7 @@ use Rattle.rules.specs.Request.{SoundRequest, SoundValue, recordChecks, request
 use Rattle.rules.specs.Plans.{Finish, allRiders}
 use Rattle.rules.specs.Answers.{Outcome, gives, refuses, Lent, Searched, refused, hopeless, planned}
 use Rattle.rules.specs.Program.{line, okWord, refusedWord, stepLine, nodeAfter, stepLines, printed}
+use Rattle.rules.proofs.Clash.{clash}
 use Rattle.rules.proofs.Order.{accepted-front}
 use Rattle.rules.proofs.SoundRequestLaws.{records-sound, value-sound}
 use Rattle.output.specs.Text.{textPlaces, Put}
@@ -61,8 +62,8 @@ module _ {network distances : List ℕ} {start : ℕ} {steps : List ℕ} {at : �
 -- what the search answers and leaves behind can be printed
 pub found : {network : List ℕ} (request : List ℕ) {before after : Lent} {answer : Outcome} {cost count : ℕ} → Searched network request before after answer → answer ≡ gives (cost ∷ count ∷ []) → Printable network request (after .steps) count
 unfolding requestVerdict requestValue
-found request (refused r v e same) is = let bad : _≡_ {A = ℕ} 0 1 = cc in absurd (omega (arith, bad))
-found request (hopeless v d t none e same) is = let bad : _≡_ {A = ℕ} 0 1 = cc in absurd (omega (arith, bad))
+found request (refused r v e same) is = clash (cc)
+found request (hopeless v d t none e same) is = clash (cc)
 found {network} request {before} {after} {answer} {cost} {count} (planned plan c v d t right e written) is =
     record {
       long = sounds .1 .long;

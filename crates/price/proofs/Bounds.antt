@@ -13,6 +13,7 @@ use Rattle.rules.specs.Answers.{Outcome, gives, Pricing, refused, stranded, pri
 use Rattle.rules.specs.Checks.{Check, firstOf}
 use Rattle.rules.specs.declared.Request.{Request}
 use Rattle.rules.specs.declared.Verdict.the-variants.{Accepted}
+use Rattle.rules.proofs.Clash.{clash}
 use Rattle.rules.proofs.Order.{accepted-head, accepted-front, accepted-rest}
 use Rattle.rules.proofs.SoundRequestLaws.{records-sound, value-sound}
 use Rattle.finish.proofs.Bounds.{walking-bounded}
@@ -53,8 +54,8 @@ pub pricing-bounded : (network request route : List ℕ) (c : Check) {meetings :
     → price ≤ mostPrice
 unfolding requestVerdict
 pricing-bounded network request route c {price = price} pricing told = elim pricing [
-  | refused x v e m ↦ (let z : _≡_ {A = ℕ} 0 1 = cc in absurd (omega arith))
-  | stranded j v h s l e m ↦ (let z : _≡_ {A = ℕ} 0 1 = cc in absurd (omega arith))
+  | refused x v e m ↦ clash (cc)
+  | stranded j v h s l e m ↦ clash (cc)
   | priced p v costs z e ↦ (
       let same : p ≡ price = cc in
       let (sound, request-sound) = records-sound network request (accepted-front (recordChecks network request) _ v) in

@@ -17,6 +17,7 @@ use Rattle.rules.specs.declared.Refusal.{Refusal}
 use Rattle.rules.specs.declared.Request.{Request}
 use Rattle.rules.specs.declared.Verdict.{Verdict}
 use Rattle.rules.specs.declared.Verdict.the-variants.{Accepted, Refused as NotAccepted}
+use Rattle.rules.proofs.Clash.{clash}
 use Rattle.rules.proofs.Order.{given, passed, front-refused, front-passed}
 
 copy-suc : (xs d : List ℕ) (j : ℕ) → j < length xs → j < length d → set (take j xs ++ drop j d) j (getD xs j 0) ≡ take (suc j) xs ++ drop (suc j) d
@@ -66,6 +67,6 @@ module _ (network request route before : List ℕ) where
 
 -- a price comes with as many meeting positions as there are riders
 pub meeting-count : {v : Verdict} {network : List ℕ} {q : Request} {route : List ℕ} {answer : Outcome} {meetings : List ℕ} {values : List ℕ} → Pricing v network q route answer meetings → answer ≡ gives values → length meetings ≡ q .count
-meeting-count (refused r is told none) e = (let z : _≡_ {A = ℕ} 0 1 = cc in absurd (omega arith))
-meeting-count (stranded j is h lost first told none) e = (let z : _≡_ {A = ℕ} 0 1 = cc in absurd (omega arith))
+meeting-count (refused r is told none) e = clash (cc)
+meeting-count (stranded j is h lost first told none) e = clash (cc)
 meeting-count (priced p is so size told) e = size

@@ -10,6 +10,7 @@ use Rattle.rules.specs.Checks.{Check, check, refuse, firstOf, each}
 use Rattle.rules.specs.declared.Refusal.{Refusal}
 use Rattle.rules.specs.declared.Verdict.{Verdict}
 use Rattle.rules.specs.declared.Verdict.the-variants.{Accepted, Refused}
+use Rattle.rules.proofs.Clash.{clash}
 
 pub given : (number place : ℕ) {applies : Bool} (rest : List Check) → applies ≡ true → firstOf (check number place applies ∷ rest) ≡ Refused (refuse number place)
 unfolding firstOf
@@ -20,7 +21,7 @@ unfolding firstOf
 passed number place rest e = rw e
 
 never : {A : Type 0} (r : Refusal) → Refused r ≡ Accepted → A
-never r e = let z : _≡_ {A = ℕ} 0 1 = cc in absurd (omega arith)
+never r e = clash (cc)
 
 -- one check more in front of a front that ends in x
 behind : (b : Bool) (r : Refusal) {front whole x : Verdict} → cond b (Refused r) front ≡ x → (front ≡ x → whole ≡ x) → cond b (Refused r) whole ≡ x

@@ -12,6 +12,7 @@ use Rattle.rules.specs.Answers.{searchChecks}
 use Rattle.rules.specs.declared.Refusal.{Refusal}
 use Rattle.rules.specs.declared.Verdict.{Verdict}
 use Rattle.rules.specs.declared.Verdict.the-variants.{Accepted, Refused}
+use Rattle.rules.proofs.Clash.{clash}
 use Rattle.rules.proofs.Order.{front-refused, front-passed}
 use Rattle.rules.proofs.SoundNetworkLaws.{sizes-accepted}
 use Rattle.rules.proofs.SoundRequestLaws.{count-accepted}
@@ -30,7 +31,7 @@ first-given P false x r p e later = later refl e
 module _ {P : Refusal → Type 0} where
   pub none-given : Gives P []
   unfolding firstOf
-  none-given = record { given = λ r e. let z : _≡_ {A = ℕ} 0 1 = cc in absurd (omega arith) }
+  none-given = record { given = λ r e. clash (cc) }
 
   -- one check in front, which the rest may take as passed
   pub then-given : (c : Check) {rest : List Check} → P (refuse (c .number) (c .place)) → (c .applies ≡ false → Gives P rest) → Gives P (c ∷ rest)

@@ -10,6 +10,7 @@ use Rattle.rules.specs.Network.{nodeCount}
 use Rattle.rules.specs.Request.{recordChecks, requestVerdict, requestValue, SoundValue}
 use Rattle.rules.specs.Answers.{Outcome, Lent, searchChecks, Searched, refused, hopeless, planned}
 use Rattle.rules.specs.declared.Verdict.the-variants.{Accepted}
+use Rattle.rules.proofs.Clash.{clash}
 use Rattle.rules.proofs.Order.{front-passed, accepted-front, accepted-rest}
 use Rattle.rules.proofs.Refusals.{search-small}
 use Rattle.rules.proofs.SoundRequestLaws.{records-sound, sound-records, value-sound}
@@ -40,18 +41,18 @@ module _ (network request : List ℕ) {before : Lent} where
   pub demand-3 : {after : Lent} {answer : Outcome} → Searched network request before after answer → Demand3 network request before after answer
   demand-3 (refused r v a same) =
       record {
-        answers = λ given. let passes = given-passes given in let z : _≡_ {A = ℕ} 0 1 = cc in absurd (omega arith);
-        plan = λ cost count told. let z : _≡_ {A = ℕ} 0 1 = cc in absurd (omega arith);
+        answers = λ given. let passes = given-passes given in clash (cc);
+        plan = λ cost count told. clash (cc);
         none = (
           λ told. (let is : r .number ≡ 24 = cc in absurd (omega (arith, search-small 24 (omega arith) network request _ _ _ .given r v .number))),
-          λ (given, blocked). (let passes = given-passes given in let z : _≡_ {A = ℕ} 0 1 = cc in absurd (omega arith)),
+          λ (given, blocked). (let passes = given-passes given in clash (cc)),
         );
       }
   demand-3 (hopeless v d t unplanned a same) =
       let given = passes-given v in
       record {
         answers = λ _. inr a;
-        plan = λ cost count told. let z : _≡_ {A = ℕ} 0 1 = cc in absurd (omega arith);
+        plan = λ cost count told. clash (cc);
         none = (λ told. (given, no-plan (given .network-sound) (value given) .0 unplanned), λ _. a);
       }
   demand-3 (planned steps c v d t right a w) =
@@ -71,7 +72,7 @@ module _ (network request : List ℕ) {before : Lent} where
               only = λ others e other. let (same, paid) = right-plan-unique other right in (same, paid ∙ costs);
             };
         none = (
-          λ told. (let z : _≡_ {A = ℕ} 0 1 = cc in absurd (omega arith)),
+          λ told. clash (cc),
           λ (given, blocked). absurd (no-plan (given .network-sound) sound .1 blocked _ _ (right .best .finishes)),
         );
       }

@@ -1,6 +1,5 @@
 -- The walking entry's answers, in the order of its checks.
 use Prim.Native.Nat.{ℕ, _≤_, _<_}
-use native.Mathlib.Omega.{arith}
 use mathlib.Core.Path.{_≡_, refl, sym, _∙_}
 use mathlib.Core.List.{List}
 use lib.ListN.{length}
@@ -11,6 +10,7 @@ use Rattle.rules.specs.Answers.{verdictOutcome, walkChecks, Walked}
 use Rattle.rules.specs.declared.Refusal.{Refusal}
 use Rattle.rules.specs.declared.Verdict.{Verdict}
 use Rattle.rules.specs.declared.Verdict.the-variants.{Accepted, Refused}
+use Rattle.rules.proofs.Clash.{clash}
 use Rattle.rules.proofs.Order.{front-refused, front-passed}
 use Rattle.walk.specs.Row.{Row}
 
@@ -20,7 +20,7 @@ module _ {network : List ℕ} {start : ℕ} {before : List ℕ} where
   refusal r is told =
       rw (← is, told) (record {
         answers = refl;
-        fills = λ e. (let z : _≡_ {A = ℕ} 0 1 = cc in absurd (omega arith));
+        fills = λ e. clash (cc);
         kept = record { size = refl; later = refl };
       })
 

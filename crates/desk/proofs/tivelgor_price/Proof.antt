@@ -1,7 +1,6 @@
-use native.Mathlib.Omega.{arith}
-use Prim.Native.Nat.{ℕ}
-use mathlib.Core.Path.{_≡_, sym, _∙_, ap}
+use mathlib.Core.Path.{sym, _∙_, ap}
 use Rattle.rules.specs.Answers.{pricedOutcome}
+use Rattle.rules.proofs.Clash.{clash}
 use Rattle.desk.specs.Numbers.{pricedNumber}
 use Rattle.desk.proofs.Numbers.{price-refusal}
 use borrow.Author.Needs.{needs}
@@ -27,7 +26,7 @@ same-length : tie.Need-same-length
 same-length c = search needs
 
 returns : tie.Need-returns
-returns c = (let z : _≡_ {A = ℕ} 0 1 = cc (c .before .before .before .answer2 .given .1) in absurd (omega arith))
+returns c = clash (cc (c .before .before .before .answer2 .given .1))
 
 refusal-number-requires : tie.Need-refusal-number-requires
 refusal-number-requires c κs = price-refusal (c .before .before .before .before .before .before .before .before .price .ensures) _ (ap pricedOutcome (c .before .before .before .before .answer2 .given .1 ∙ c .before .answer3 .given .1)) .place

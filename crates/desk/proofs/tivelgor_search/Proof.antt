@@ -1,7 +1,7 @@
 use native.Mathlib.Omega.{arith}
-use Prim.Native.Nat.{ℕ}
-use mathlib.Core.Path.{_≡_, sym, _∙_, ap}
+use mathlib.Core.Path.{sym, _∙_, ap}
 use Rattle.rules.specs.Answers.{plannedOutcome}
+use Rattle.rules.proofs.Clash.{clash}
 use Rattle.desk.specs.Numbers.{plannedNumber}
 use Rattle.desk.proofs.Numbers.{plan-refusal, plan-small}
 use borrow.Author.Needs.{needs}
@@ -33,7 +33,7 @@ same-length-3 : tie.Need-same-length-3
 same-length-3 c = search needs
 
 returns : tie.Need-returns
-returns c = (let z : _≡_ {A = ℕ} 0 1 = cc (c .before .before .before .answer2 .given .1) in absurd (omega arith))
+returns c = clash (cc (c .before .before .before .answer2 .given .1))
 
 refusal-number-requires : tie.Need-refusal-number-requires
 refusal-number-requires c κs = plan-refusal _ (c .before .before .before .before .before .before .before .before .before .before .before .before .search .ensures) _ (ap plannedOutcome (c .before .before .before .before .answer2 .given .1 ∙ c .before .answer3 .given .1)) .place

@@ -1,9 +1,7 @@
-use native.Mathlib.Omega.{arith}
-use Prim.Native.Nat.{ℕ}
-use native.Mathlib.Omega.{arith}
-use mathlib.Core.Path.{_≡_, sym, _∙_, ap}
+use mathlib.Core.Path.{sym, _∙_, ap}
 use Rattle.rules.specs.Answers.{pricedOutcome, tabletNumber}
 use Rattle.rules.specs.declared.Priced.{Priced}
+use Rattle.rules.proofs.Clash.{clash}
 use borrow.Author.Needs.{needs}
 use Rattle.tablet.proofs.tivelgor_tablet_price.Statement.{statement}
 use Rattle.tablet.proofs.tivelgor_tablet_price.Tie as tie
@@ -24,7 +22,7 @@ enum-told : tie.Need-enum-told
 enum-told c = search needs
 
 returns : tie.Need-returns
-returns c = (let z : _≡_ {A = ℕ} 0 1 = cc (c .before .before .before .answer2 .given .1, c .enum-told .given .1) in absurd (omega arith))
+returns c = clash (cc (c .before .before .before .answer2 .given .1, c .enum-told .given .1))
 
 cast-result : tie.Need-cast-result
 cast-result c = search needs
