@@ -6,15 +6,6 @@ use borrow.Author.Needs.{needs}
 use Rattle.desk.proofs.tivelgor_network.Statement.{statement}
 use Rattle.desk.proofs.tivelgor_network.Tie as tie
 
-read-network-requires : tie.Need-read-network-requires
-read-network-requires c κs = search needs
-
-enum-known-verdict : tie.Need-enum-known-verdict
-enum-known-verdict c = search needs
-
-enum-told : tie.Need-enum-told
-enum-told c = search needs
-
 mul-result : tie.Need-mul-result
 mul-result c = omega (arith, network-sizes _ (c .before .before .read-network .ensures) (c .enum-told .given .1))
 
@@ -34,9 +25,9 @@ pub tivelgor-network-spec : {M : Type 1} → statement M
 tivelgor-network-spec =
     tie.close
     (tie.spec
-    read-network-requires
-    enum-known-verdict
-    enum-told
+    (λ c κs. search needs)
+    (λ c. search needs)
+    (λ c. search needs)
     mul-result
     add-result
     returns

@@ -7,38 +7,14 @@ use borrow.Author.Needs.{needs}
 use Rattle.desk.proofs.tivelgor_price.Statement.{statement}
 use Rattle.desk.proofs.tivelgor_price.Tie as tie
 
-price-requires : tie.Need-price-requires
-price-requires c κs = search needs
-
-enum-known-answer : tie.Need-enum-known-answer
-enum-known-answer c = search needs
-
-enum-known-answer-2 : tie.Need-enum-known-answer-2
-enum-known-answer-2 c = search needs
-
-enum-known-answer-3 : tie.Need-enum-known-answer-3
-enum-known-answer-3 c = search needs
-
-enum-told : tie.Need-enum-told
-enum-told c = search needs
-
-same-length : tie.Need-same-length
-same-length c = search needs
-
 returns : tie.Need-returns
 returns c = clash (cc (c .before .before .before .answer2 .given .1))
 
 refusal-number-requires : tie.Need-refusal-number-requires
 refusal-number-requires c κs = price-refusal (c .before .before .before .before .before .before .before .before .price .ensures) _ (ap pricedOutcome (c .before .before .before .before .answer2 .given .1 ∙ c .before .answer3 .given .1)) .place
 
-same-length-2 : tie.Need-same-length-2
-same-length-2 c = search needs
-
 returns-2 : tie.Need-returns-2
 returns-2 c = record { answer = c .before .before .before .before .before .before .before .before .before .price .result; priced = c .before .before .before .before .before .before .before .before .before .price .ensures; tells = c .refusal-number .ensures ∙ sym (ap pricedNumber (c .before .before .before .before .before .answer2 .given .1 ∙ c .before .before .answer3 .given .1)) }
-
-same-length-3 : tie.Need-same-length-3
-same-length-3 c = search needs
 
 returns-3 : tie.Need-returns-3
 returns-3 c = record { answer = c .before .before .before .before .before .price .result; priced = c .before .before .before .before .before .price .ensures; tells = sym (ap pricedNumber (c .before .answer .given .1)) }
@@ -47,15 +23,15 @@ pub tivelgor-price-spec : {M : Type 1} → statement M
 tivelgor-price-spec =
     tie.close
     (tie.spec
-    price-requires
-    enum-known-answer
-    enum-known-answer-2
-    enum-known-answer-3
-    enum-told
-    same-length
+    (λ c κs. search needs)
+    (λ c. search needs)
+    (λ c. search needs)
+    (λ c. search needs)
+    (λ c. search needs)
+    (λ c. search needs)
     returns
     refusal-number-requires
-    same-length-2
+    (λ c. search needs)
     returns-2
-    same-length-3
+    (λ c. search needs)
     returns-3)

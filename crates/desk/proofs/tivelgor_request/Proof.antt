@@ -5,15 +5,6 @@ use borrow.Author.Needs.{needs}
 use Rattle.desk.proofs.tivelgor_request.Statement.{statement}
 use Rattle.desk.proofs.tivelgor_request.Tie as tie
 
-read-request-requires : tie.Need-read-request-requires
-read-request-requires c κs = search needs
-
-enum-known-verdict : tie.Need-enum-known-verdict
-enum-known-verdict c = search needs
-
-enum-told : tie.Need-enum-told
-enum-told c = search needs
-
 returns : tie.Need-returns
 returns c = accepted-tells _ (c .before .enum-told .given .1) ∙ ap requestNumber (c .before .before .before .read-request .ensures)
 
@@ -27,9 +18,9 @@ pub tivelgor-request-spec : {M : Type 1} → statement M
 tivelgor-request-spec =
     tie.close
     (tie.spec
-    read-request-requires
-    enum-known-verdict
-    enum-told
+    (λ c κs. search needs)
+    (λ c. search needs)
+    (λ c. search needs)
     returns
     refusal-number-requires
     returns-2)

@@ -4,20 +4,11 @@ use borrow.Author.Needs.{needs}
 use Rattle.lines.proofs.meet_line.Statement.{statement}
 use Rattle.lines.proofs.meet_line.Tie as tie
 
-line-feed-requires : tie.Need-line-feed-requires
-line-feed-requires c κs = search needs
-
-field-requires : tie.Need-field-requires
-field-requires c κs = search needs
-
 field-requires-2 : tie.Need-field-requires-2
 field-requires-2 c κs = field-room 21 _ (omega arith) (feed-room (c .before .line-feed .ensures)) (c .field .ensures)
 
 field-requires-3 : tie.Need-field-requires-3
 field-requires-3 c κs = field-room 21 _ (omega arith) (field-room 74 _ (omega arith) (feed-room (c .before .before .line-feed .ensures)) (c .before .field .ensures)) (c .field2 .ensures)
-
-slice-aggregate-word : tie.Need-slice-aggregate-word
-slice-aggregate-word c = search needs
 
 word-requires : tie.Need-word-requires
 word-requires c κs = field-room 4 _ (omega arith) (field-room 53 _ (omega arith) (field-room 74 _ (omega arith) (feed-room (c .before .before .before .before .line-feed .ensures)) (c .before .before .before .field .ensures)) (c .before .before .field2 .ensures)) (c .before .field3 .ensures)
@@ -29,10 +20,10 @@ pub meet-line-spec : {M : Type 1} → statement M
 meet-line-spec =
     tie.close
     (tie.spec
-    line-feed-requires
-    field-requires
+    (λ c κs. search needs)
+    (λ c κs. search needs)
     field-requires-2
     field-requires-3
-    slice-aggregate-word
+    (λ c. search needs)
     word-requires
     returns)

@@ -4,17 +4,8 @@ use borrow.Author.Needs.{needs}
 use Rattle.lines.proofs.ok_line.Statement.{statement}
 use Rattle.lines.proofs.ok_line.Tie as tie
 
-line-feed-requires : tie.Need-line-feed-requires
-line-feed-requires c κs = search needs
-
-field-requires : tie.Need-field-requires
-field-requires c κs = search needs
-
 field-requires-2 : tie.Need-field-requires-2
 field-requires-2 c κs = field-room 21 _ (omega arith) (feed-room (c .before .line-feed .ensures)) (c .field .ensures)
-
-slice-aggregate-word : tie.Need-slice-aggregate-word
-slice-aggregate-word c = search needs
 
 word-requires : tie.Need-word-requires
 word-requires c κs = field-room 2 _ (omega arith) (field-room 74 _ (omega arith) (feed-room (c .before .before .before .line-feed .ensures)) (c .before .before .field .ensures)) (c .before .field2 .ensures)
@@ -26,9 +17,9 @@ pub ok-line-spec : {M : Type 1} → statement M
 ok-line-spec =
     tie.close
     (tie.spec
-    line-feed-requires
-    field-requires
+    (λ c κs. search needs)
+    (λ c κs. search needs)
     field-requires-2
-    slice-aggregate-word
+    (λ c. search needs)
     word-requires
     returns)

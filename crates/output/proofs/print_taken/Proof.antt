@@ -5,15 +5,6 @@ use borrow.Author.Needs.{needs}
 use Rattle.output.proofs.print_taken.Statement.{statement}
 use Rattle.output.proofs.print_taken.Tie as tie
 
-network-size-requires : tie.Need-network-size-requires
-network-size-requires c κs = search needs
-
-sub-print-plan : tie.Need-sub-print-plan
-sub-print-plan c = search needs
-
-part-print-plan-start : tie.Need-part-print-plan-start
-part-print-plan-start c = search needs
-
 part-print-plan-end : tie.Need-part-print-plan-end
 part-print-plan-end c = omega (arith, network-size-within (c .before .before .before .args .taken .now), c .network-size .ensures)
 
@@ -23,15 +14,6 @@ sub-print-plan-2 c = omega (arith, network-size-within (c .before .before .befor
 part-print-plan-start-2 : tie.Need-part-print-plan-start-2
 part-print-plan-start-2 c = omega (arith, network-size-within (c .before .before .before .before .args .taken .now), c .before .network-size .ensures)
 
-part-print-plan-end-2 : tie.Need-part-print-plan-end-2
-part-print-plan-end-2 c = search needs
-
-print-plan-requires : tie.Need-print-plan-requires
-print-plan-requires c κs = search needs
-
-same-length : tie.Need-same-length
-same-length c = search needs
-
 returns : tie.Need-returns
 returns c = parted (c .before .before .before .before .before .before .before .before .before .args .taken .now) (c .before .before .before .before .before .before .network-size .result) (c .before .before .before .before .before .before .network-size .ensures) (c .before .before .print-plan .ensures)
 
@@ -39,13 +21,13 @@ pub print-taken-spec : {M : Type 1} → statement M
 print-taken-spec =
     tie.close
     (tie.spec
-    network-size-requires
-    sub-print-plan
-    part-print-plan-start
+    (λ c κs. search needs)
+    (λ c. search needs)
+    (λ c. search needs)
     part-print-plan-end
     sub-print-plan-2
     part-print-plan-start-2
-    part-print-plan-end-2
-    print-plan-requires
-    same-length
+    (λ c. search needs)
+    (λ c κs. search needs)
+    (λ c. search needs)
     returns)

@@ -10,17 +10,8 @@ use borrow.Author.Needs.{needs}
 use Rattle.price.proofs.price.Statement.{statement}
 use Rattle.price.proofs.price.Tie as tie
 
-read-request-requires : tie.Need-read-request-requires
-read-request-requires c κs = search needs
-
-enum-known-verdict : tie.Need-enum-known-verdict
-enum-known-verdict c = search needs
-
 returns : tie.Need-returns
 returns c = records-refused _ _ _ _ _ (request-verdict _ _ (c .before .before .before .read-request .ensures)) (c .before .verdict .given .1)
-
-enum-told : tie.Need-enum-told
-enum-told c = search needs
 
 returns-2 : tie.Need-returns-2
 returns-2 c = refused-31 _ _ _ _ (request-accepted _ _ (c .before .before .before .before .read-request .ensures) (c .before .before .enum-told .given .1)) (ap (λ (q : Request). q .count) (request-value _ _ (c .before .before .before .before .read-request .ensures) (c .before .before .enum-told .given .1))) (c .if1 .taken)
@@ -29,12 +20,6 @@ price-route-requires : tie.Need-price-route-requires
 price-route-requires c κs =
     let (network, request) = records-sound _ _ (request-accepted _ _ (c .before .before .before .before .read-request .ensures) (c .before .before .enum-told .given .1)) in
     (network, rw (request-value _ _ (c .before .before .before .before .read-request .ensures) (c .before .before .enum-told .given .1)) (value-sound _ _ request))
-
-enum-told-2 : tie.Need-enum-told-2
-enum-told-2 c = search needs
-
-enum-told-3 : tie.Need-enum-told-3
-enum-told-3 c = search needs
 
 returns-3 : tie.Need-returns-3
 returns-3 c =
@@ -54,9 +39,6 @@ write-requires c κs =
       c .before .before .before .before .before .if1 .left,
     )
 
-same-length : tie.Need-same-length
-same-length c = search needs
-
 returns-4 : tie.Need-returns-4
 returns-4 c =
     let told = c .before .before .before .before .before .enum-told2 .given .1 in
@@ -69,15 +51,15 @@ pub price-spec : {M : Type 1} → statement M
 price-spec =
     tie.close
     (tie.spec
-    read-request-requires
-    enum-known-verdict
+    (λ c κs. search needs)
+    (λ c. search needs)
     returns
-    enum-told
+    (λ c. search needs)
     returns-2
     price-route-requires
-    enum-told-2
-    enum-told-3
+    (λ c. search needs)
+    (λ c. search needs)
     returns-3
     write-requires
-    same-length
+    (λ c. search needs)
     returns-4)

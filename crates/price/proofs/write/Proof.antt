@@ -20,23 +20,8 @@ abbrev μ-loop : tie.MeasureT-loop
 loop-holds : tie.Need-loop-holds Inv-loop μ-loop
 loop-holds c = (omega arith, refl)
 
-mul-meeting : tie.Need-mul-meeting Inv-loop μ-loop
-mul-meeting c = omega arith
-
-array-read-meeting : tie.Need-array-read-meeting Inv-loop μ-loop
-array-read-meeting c = omega arith
-
-mul-meeting-2 : tie.Need-mul-meeting-2 Inv-loop μ-loop
-mul-meeting-2 c = omega arith
-
 slice-write-meeting : tie.Need-slice-write-meeting Inv-loop μ-loop
 slice-write-meeting c = omega (arith, ap length (c .before .loop .inv .1) ∙ copied-size _ _ (c .before .loop .j) (omega arith) (omega arith))
-
-add-j : tie.Need-add-j Inv-loop μ-loop
-add-j c = omega arith
-
-loop-less : tie.Need-loop-less Inv-loop μ-loop
-loop-less c = omega arith
 
 loop-again : tie.Need-loop-again Inv-loop μ-loop
 loop-again c = (omega arith, rw (c .before .loop .inv .1) (copy-more _ _ (c .before .loop .j) (omega arith) (omega arith)))
@@ -56,12 +41,12 @@ write-spec =
     Inv-loop
     μ-loop
     loop-holds
-    mul-meeting
-    array-read-meeting
-    mul-meeting-2
+    (λ c. omega arith)
+    (λ c. omega arith)
+    (λ c. omega arith)
     slice-write-meeting
-    add-j
-    loop-less
+    (λ c. omega arith)
+    (λ c. omega arith)
     loop-again
     same-length
     returns)

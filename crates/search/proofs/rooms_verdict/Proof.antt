@@ -10,44 +10,20 @@ use Rattle.search.proofs.rooms_verdict.Tie as tie
 mul-if1 : tie.Need-mul-if1
 mul-if1 c = omega (arith, mul-le-mul (c .pre .2) (c .pre .1))
 
-refused-requires : tie.Need-refused-requires
-refused-requires c κs = search needs
-
 returns : tie.Need-returns
 returns c = c .refused .ensures ∙ sym (room-21 _ _ _ _ _ (c .before .if1 .taken))
-
-cast-rider-bit : tie.Need-cast-rider-bit
-cast-rider-bit c = search needs
-
-rider-bit-requires : tie.Need-rider-bit-requires
-rider-bit-requires c κs = search needs
-
-cast-if2 : tie.Need-cast-if2
-cast-if2 c = search needs
 
 mul-if2 : tie.Need-mul-if2
 mul-if2 c = rw (c .rider-bit .ensures) (omega (arith, mul-le-mul (sets-few _ (c .before .before .pre .2)) (c .before .before .pre .1)))
 
-refused-requires-2 : tie.Need-refused-requires-2
-refused-requires-2 c κs = search needs
-
 returns-2 : tie.Need-returns-2
 returns-2 c = c .refused2 .ensures ∙ sym (room-22 _ _ _ _ _ (c .before .before .before .if1 .left) (rw (c .before .before .rider-bit .ensures) at (c .before .if2 .taken)))
-
-add-if3 : tie.Need-add-if3
-add-if3 c = search needs
-
-sub-if3 : tie.Need-sub-if3
-sub-if3 c = search needs
 
 mul-if3 : tie.Need-mul-if3
 mul-if3 c = omega (arith, c .before .before .before .pre, steps-few (c .before .before .before .args .n) (c .before .before .before .args .l) (c .before .before .before .pre .1) (c .before .before .before .pre .2))
 
 add-if3-2 : tie.Need-add-if3-2
 add-if3-2 c = omega (arith, c .before .before .before .pre, steps-few (c .before .before .before .args .n) (c .before .before .before .args .l) (c .before .before .before .pre .1) (c .before .before .before .pre .2))
-
-refused-requires-3 : tie.Need-refused-requires-3
-refused-requires-3 c κs = search needs
 
 returns-3 : tie.Need-returns-3
 returns-3 c =
@@ -63,18 +39,18 @@ rooms-verdict-spec =
     tie.close
     (tie.spec
     mul-if1
-    refused-requires
+    (λ c κs. search needs)
     returns
-    cast-rider-bit
-    rider-bit-requires
-    cast-if2
+    (λ c. search needs)
+    (λ c κs. search needs)
+    (λ c. search needs)
     mul-if2
-    refused-requires-2
+    (λ c κs. search needs)
     returns-2
-    add-if3
-    sub-if3
+    (λ c. search needs)
+    (λ c. search needs)
     mul-if3
     add-if3-2
-    refused-requires-3
+    (λ c κs. search needs)
     returns-3
     returns-4)

@@ -8,17 +8,8 @@ use borrow.Author.Needs.{needs}
 use Rattle.search.proofs.search.Statement.{statement}
 use Rattle.search.proofs.search.Tie as tie
 
-read-request-requires : tie.Need-read-request-requires
-read-request-requires c κs = search needs
-
-enum-known-verdict : tie.Need-enum-known-verdict
-enum-known-verdict c = search needs
-
 returns : tie.Need-returns
 returns c = records-refused _ _ _ _ (request-verdict _ _ (c .before .before .before .read-request .ensures)) (c .before .verdict .given .1)
-
-enum-told : tie.Need-enum-told
-enum-told c = search needs
 
 node-count-requires : tie.Need-node-count-requires
 node-count-requires c κs = omega (arith, records-sound _ _ (request-accepted _ _ (c .before .before .before .read-request .ensures) (c .before .enum-told .given .1)) .0 .long)
@@ -28,16 +19,10 @@ rooms-verdict-requires c κs =
     let (network, request) = records-sound _ _ (request-accepted _ _ (c .before .before .before .before .read-request .ensures) (c .before .before .enum-told .given .1)) in
     rw (c .node-count .ensures .value, (request-value _ _ (c .before .before .before .before .read-request .ensures) (c .before .before .enum-told .given .1))) (network .someNode, network .nodes, value-sound _ _ request .riders)
 
-enum-known-rooms : tie.Need-enum-known-rooms
-enum-known-rooms c = search needs
-
 returns-2 : tie.Need-returns-2
 returns-2 c =
     rooms-refused _ _ _ (request-accepted _ _ (c .before .before .before .before .before .before .before .before .read-request .ensures) (c .before .before .before .before .before .before .enum-told .given .1))
     (rw (c .before .before .before .before .node-count .ensures .value, (request-value _ _ (c .before .before .before .before .before .before .before .before .read-request .ensures) (c .before .before .before .before .before .before .enum-told .given .1))) at (c .before .before .before .rooms-verdict .ensures)) _ (c .before .rooms .given .1)
-
-enum-told-2 : tie.Need-enum-told-2
-enum-told-2 c = search needs
 
 plan-requires : tie.Need-plan-requires
 plan-requires c κs =
@@ -50,15 +35,6 @@ plan-requires c κs =
           (rw (c .before .before .before .before .before .before .node-count .ensures .value, (request-value _ _ (c .before .before .before .before .before .before .before .before .before .before .read-request .ensures) (c .before .before .before .before .before .before .before .before .enum-told .given .1))) at (sym (c .before .before .before .before .before .rooms-verdict .ensures) ∙ c .before .before .before .enum-told2 .given .1));
     })
 
-same-length : tie.Need-same-length
-same-length c = search needs
-
-same-length-2 : tie.Need-same-length-2
-same-length-2 c = search needs
-
-same-length-3 : tie.Need-same-length-3
-same-length-3 c = search needs
-
 returns-3 : tie.Need-returns-3
 returns-3 c =
     searched _ _ _ (request-accepted _ _ (c .before .before .before .before .before .before .before .before .before .before .before .before .before .before .before .before .before .read-request .ensures) (c .before .before .before .before .before .before .before .before .before .before .before .before .before .before .before .enum-told .given .1))
@@ -69,17 +45,17 @@ pub search-spec : {M : Type 1} → statement M
 search-spec =
     tie.close
     (tie.spec
-    read-request-requires
-    enum-known-verdict
+    (λ c κs. search needs)
+    (λ c. search needs)
     returns
-    enum-told
+    (λ c. search needs)
     node-count-requires
     rooms-verdict-requires
-    enum-known-rooms
+    (λ c. search needs)
     returns-2
-    enum-told-2
+    (λ c. search needs)
     plan-requires
-    same-length
-    same-length-2
-    same-length-3
+    (λ c. search needs)
+    (λ c. search needs)
+    (λ c. search needs)
     returns-3)

@@ -10,38 +10,14 @@ use borrow.Author.Needs.{needs}
 use Rattle.tablet.proofs.tablet_answer.Statement.{statement}
 use Rattle.tablet.proofs.tablet_answer.Tie as tie
 
-read-request-requires : tie.Need-read-request-requires
-read-request-requires c κs = search needs
-
-enum-known-verdict : tie.Need-enum-known-verdict
-enum-known-verdict c = search needs
-
 returns : tie.Need-returns
 returns c = records-refused _ _ _ _ (request-verdict _ _ (c .before .before .before .read-request .ensures)) (c .before .verdict .given .1)
-
-enum-told : tie.Need-enum-told
-enum-told c = search needs
 
 returns-2 : tie.Need-returns-2
 returns-2 c = refused-38 _ _ _ (request-accepted _ _ (c .before .before .before .read-request .ensures) (c .before .enum-told .given .1)) (c .if1 .taken)
 
 returns-3 : tie.Need-returns-3
 returns-3 c = refused-32 _ _ _ (request-accepted _ _ (c .before .before .before .before .read-request .ensures) (c .before .before .enum-told .given .1)) (c .before .if1 .left) (c .if2 .taken)
-
-slice-aggregate-decode : tie.Need-slice-aggregate-decode
-slice-aggregate-decode c = search needs
-
-decode-requires : tie.Need-decode-requires
-decode-requires c κs = search needs
-
-sub-price-route : tie.Need-sub-price-route
-sub-price-route c = search needs
-
-part-price-route-start : tie.Need-part-price-route-start
-part-price-route-start c = search needs
-
-part-price-route-end : tie.Need-part-price-route-end
-part-price-route-end c = search needs
 
 price-route-requires : tie.Need-price-route-requires
 price-route-requires c κs =
@@ -58,16 +34,16 @@ pub tablet-answer-spec : {M : Type 1} → statement M
 tablet-answer-spec =
     tie.close
     (tie.spec
-    read-request-requires
-    enum-known-verdict
+    (λ c κs. search needs)
+    (λ c. search needs)
     returns
-    enum-told
+    (λ c. search needs)
     returns-2
     returns-3
-    slice-aggregate-decode
-    decode-requires
-    sub-price-route
-    part-price-route-start
-    part-price-route-end
+    (λ c. search needs)
+    (λ c κs. search needs)
+    (λ c. search needs)
+    (λ c. search needs)
+    (λ c. search needs)
     price-route-requires
     returns-4)

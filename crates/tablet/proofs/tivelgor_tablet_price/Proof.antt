@@ -6,29 +6,8 @@ use borrow.Author.Needs.{needs}
 use Rattle.tablet.proofs.tivelgor_tablet_price.Statement.{statement}
 use Rattle.tablet.proofs.tivelgor_tablet_price.Tie as tie
 
-tablet-answer-requires : tie.Need-tablet-answer-requires
-tablet-answer-requires c κs = search needs
-
-enum-known-answer : tie.Need-enum-known-answer
-enum-known-answer c = search needs
-
-enum-known-answer-2 : tie.Need-enum-known-answer-2
-enum-known-answer-2 c = search needs
-
-enum-known-answer-3 : tie.Need-enum-known-answer-3
-enum-known-answer-3 c = search needs
-
-enum-told : tie.Need-enum-told
-enum-told c = search needs
-
 returns : tie.Need-returns
 returns c = clash (cc (c .before .before .before .answer2 .given .1, c .enum-told .given .1))
-
-cast-result : tie.Need-cast-result
-cast-result c = search needs
-
-add-result : tie.Need-add-result
-add-result c = search needs
 
 returns-2 : tie.Need-returns-2
 returns-2 c =
@@ -44,13 +23,13 @@ pub tivelgor-tablet-price-spec : {M : Type 1} → statement M
 tivelgor-tablet-price-spec =
     tie.close
     (tie.spec
-    tablet-answer-requires
-    enum-known-answer
-    enum-known-answer-2
-    enum-known-answer-3
-    enum-told
+    (λ c κs. search needs)
+    (λ c. search needs)
+    (λ c. search needs)
+    (λ c. search needs)
+    (λ c. search needs)
     returns
-    cast-result
-    add-result
+    (λ c. search needs)
+    (λ c. search needs)
     returns-2
     returns-3)

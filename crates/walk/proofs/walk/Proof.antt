@@ -7,27 +7,12 @@ use borrow.Author.Needs.{needs}
 use Rattle.walk.proofs.walk.Statement.{statement}
 use Rattle.walk.proofs.walk.Tie as tie
 
-read-network-requires : tie.Need-read-network-requires
-read-network-requires c κs = search needs
-
-enum-told : tie.Need-enum-told
-enum-told c = search needs
-
-enum-told-2 : tie.Need-enum-told-2
-enum-told-2 c = search needs
-
 returns : tie.Need-returns
 returns c = network-refused (c .enum-told2 .given .0 .0) (read-verdict _ (c .before .before .read-network .ensures)) (c .enum-told2 .given .1)
-
-refused-requires : tie.Need-refused-requires
-refused-requires c κs = search needs
 
 returns-2 : tie.Need-returns-2
 returns-2 c =
     refused-41 (read-accepted _ (c .before .before .before .before .read-network .ensures) (c .before .before .enum-told .given .1)) (read-n _ (c .before .before .before .before .read-network .ensures) (c .before .before .enum-told .given .1)) (c .refused .ensures) (c .before .if1 .taken)
-
-refused-requires-2 : tie.Need-refused-requires-2
-refused-requires-2 c κs = search needs
 
 returns-3 : tie.Need-returns-3
 returns-3 c =
@@ -40,9 +25,6 @@ walk-from-requires c κs =
       record { sound = network-sound _ (read-accepted _ (c .before .before .before .before .before .read-network .ensures) (c .before .before .before .enum-told .given .1)); places = omega arith },
     )
 
-same-length : tie.Need-same-length
-same-length c = search needs
-
 returns-4 : tie.Need-returns-4
 returns-4 c =
     filled (read-accepted _ (c .before .before .before .before .before .before .before .before .read-network .ensures) (c .before .before .before .before .before .before .enum-told .given .1)) (read-n _ (c .before .before .before .before .before .before .before .before .read-network .ensures) (c .before .before .before .before .before .before .enum-told .given .1)) (c .before .before .before .before .before .if1 .left) (c .before .before .before .before .if2 .left) (c .before .before .walk-from .ensures)
@@ -51,14 +33,14 @@ pub walk-spec : {M : Type 1} → statement M
 walk-spec =
     tie.close
     (tie.spec
-    read-network-requires
-    enum-told
-    enum-told-2
+    (λ c κs. search needs)
+    (λ c. search needs)
+    (λ c. search needs)
     returns
-    refused-requires
+    (λ c κs. search needs)
     returns-2
-    refused-requires-2
+    (λ c κs. search needs)
     returns-3
     walk-from-requires
-    same-length
+    (λ c. search needs)
     returns-4)

@@ -5,9 +5,6 @@ use borrow.Author.Needs.{needs}
 use Rattle.lines.proofs.step.step_line.Statement.{statement}
 use Rattle.lines.proofs.step.step_line.Tie as tie
 
-node-count-requires : tie.Need-node-count-requires
-node-count-requires c κs = search needs
-
 place : (c : tie.After-node-count) → c .before .before .before .before .args .step * c .node-count .result + c .before .before .before .before .args .node < 3584
 place c = place-small (c .before .before .before .before .pre .0) (search needs) (c .node-count .ensures .value)
 
@@ -26,9 +23,6 @@ shared-slice-read-distance c = omega (arith, place (c .before), c .before .befor
 cast-meet-line : tie.Need-cast-meet-line
 cast-meet-line c = omega (arith, c .shared-slice-known3 .given (c .before .before .before .before .before .args .step * c .before .node-count .result + c .before .before .before .before .before .args .node))
 
-meet-line-requires : tie.Need-meet-line-requires
-meet-line-requires c κs = search needs
-
 returns : tie.Need-returns
 returns c = meet-reads (c .before .before .before .before .before .before .args .network .now) (c .before .before .before .before .before .before .args .distances .now) (c .before .before .before .before .before .before .args .node) (c .before .before .before .before .before .before .args .step) (search needs) (c .before .before .node-count .ensures .value) (c .meet-line .ensures)
 
@@ -38,9 +32,6 @@ from-requires c κs = link-within (c .before .before .before .pre .0) (search ne
 to-requires : tie.Need-to-requires
 to-requires c κs = link-within (c .before .before .before .before .pre .0) (search needs)
 
-drive-line-requires : tie.Need-drive-line-requires
-drive-line-requires c κs = search needs
-
 returns-2 : tie.Need-returns-2
 returns-2 c = drive-reads (c .before .before .before .before .before .before .args .network .now) (c .before .before .before .before .before .before .args .distances .now) (c .before .before .before .before .before .before .args .node) (c .before .before .before .before .before .before .args .step) (search needs) (c .before .before .from .ensures .value) (c .before .to .ensures .value) (c .drive-line .ensures)
 
@@ -48,15 +39,15 @@ pub step-line-spec : {M : Type 1} → statement M
 step-line-spec =
     tie.close
     (tie.spec
-    node-count-requires
+    (λ c κs. search needs)
     mul-distance
     add-distance
     mul-distance-2
     shared-slice-read-distance
     cast-meet-line
-    meet-line-requires
+    (λ c κs. search needs)
     returns
     from-requires
     to-requires
-    drive-line-requires
+    (λ c κs. search needs)
     returns-2)

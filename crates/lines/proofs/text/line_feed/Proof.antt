@@ -3,11 +3,8 @@ use borrow.Author.Needs.{needs}
 use Rattle.lines.proofs.text.line_feed.Statement.{statement}
 use Rattle.lines.proofs.text.line_feed.Tie as tie
 
-array-write-bytes : tie.Need-array-write-bytes
-array-write-bytes c = search needs
-
 returns : tie.Need-returns
 returns c = only-feed
 
 pub line-feed-spec : {M : Type 1} → statement M
-line-feed-spec = tie.close (tie.spec array-write-bytes returns)
+line-feed-spec = tie.close (tie.spec (λ c. search needs) returns)

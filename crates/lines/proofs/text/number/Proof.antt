@@ -15,23 +15,14 @@ abbrev μ-loop : tie.MeasureT-loop
 loop-holds : tie.Need-loop-holds Inv-loop μ-loop
 loop-holds c = (omega arith, adding-none (decimal (c .args .x)) (c .pre))
 
-digit-requires : tie.Need-digit-requires Inv-loop μ-loop
-digit-requires c κs = search needs
-
 put-requires : tie.Need-put-requires Inv-loop μ-loop
 put-requires c κs = spelling-room (c .before .before .before .args .x) (c .before .before .loop .rest) (c .before .before .before .pre) (c .before .before .loop .inv .1)
-
-loop-less : tie.Need-loop-less Inv-loop μ-loop
-loop-less c = search needs
 
 loop-again : tie.Need-loop-again Inv-loop μ-loop
 loop-again c = (
   omega (arith, c .before .before .before .loop .inv .0),
   number-more (c .before .before .before .loop .rest) (c .before .before .before .loop .inv .0) (search needs) (c .before .digit .ensures) (c .before .before .before .loop .inv .1) (c .put .ensures),
 )
-
-digit-requires-2 : tie.Need-digit-requires-2 Inv-loop μ-loop
-digit-requires-2 c κs = search needs
 
 put-requires-2 : tie.Need-put-requires-2 Inv-loop μ-loop
 put-requires-2 c κs = spelling-room (c .before .before .before .args .x) (c .before .before .loop .rest) (c .before .before .before .pre) (c .before .before .loop .inv .1)
@@ -46,10 +37,10 @@ number-spec =
     Inv-loop
     μ-loop
     loop-holds
-    digit-requires
+    (λ c κs. search needs)
     put-requires
-    loop-less
+    (λ c. search needs)
     loop-again
-    digit-requires-2
+    (λ c κs. search needs)
     put-requires-2
     returns)

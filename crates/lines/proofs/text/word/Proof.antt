@@ -16,17 +16,11 @@ abbrev μ-loop : tie.MeasureT-loop
 loop-holds : tie.Need-loop-holds Inv-loop μ-loop
 loop-holds c = (omega arith, word-all (c .before .args .word .now) (c .before .pre))
 
-sub-i : tie.Need-sub-i Inv-loop μ-loop
-sub-i c = search needs
-
 shared-slice-read-put : tie.Need-shared-slice-read-put Inv-loop μ-loop
 shared-slice-read-put c = omega (arith, c .before .before .loop .inv .0)
 
 put-requires : tie.Need-put-requires Inv-loop μ-loop
 put-requires c κs = adding-room (c .before .before .before .before .pre .free) (c .before .before .loop .inv .1) (omega (arith, c .before .before .loop .inv .0, length-take-le (c .before .before .loop .i) (c .before .before .before .before .args .word .now) (c .before .before .loop .inv .0)))
-
-loop-less : tie.Need-loop-less Inv-loop μ-loop
-loop-less c = search needs
 
 loop-again : tie.Need-loop-again Inv-loop μ-loop
 loop-again c = (
@@ -44,9 +38,9 @@ word-spec =
     Inv-loop
     μ-loop
     loop-holds
-    sub-i
+    (λ c. search needs)
     shared-slice-read-put
     put-requires
-    loop-less
+    (λ c. search needs)
     loop-again
     returns)

@@ -9,77 +9,26 @@ Inv-loop answer₀ town distances n i₀ answer i = Unit
 abbrev μ-loop : tie.MeasureT-loop
 μ-loop answer₀ town distances n i₀ answer i = 12 - i
 
-element-copy-out-n : tie.Need-element-copy-out-n Inv-loop μ-loop
-element-copy-out-n c = search needs
-
-returns : tie.Need-returns Inv-loop μ-loop
-returns c = search needs
-
-loop-holds : tie.Need-loop-holds Inv-loop μ-loop
-loop-holds c = search needs
-
-element-copy-out-if2 : tie.Need-element-copy-out-if2 Inv-loop μ-loop
-element-copy-out-if2 c = search needs
-
-div-if2 : tie.Need-div-if2 Inv-loop μ-loop
-div-if2 c = search needs
-
-returns-2 : tie.Need-returns-2 Inv-loop μ-loop
-returns-2 c = search needs
-
-div-distance : tie.Need-div-distance Inv-loop μ-loop
-div-distance c = search needs
-
-rem-distance : tie.Need-rem-distance Inv-loop μ-loop
-rem-distance c = search needs
-
-distance-requires : tie.Need-distance-requires Inv-loop μ-loop
-distance-requires c κs = search needs
-
-distance-place-requires : tie.Need-distance-place-requires Inv-loop μ-loop
-distance-place-requires c κs = search needs
-
-add-answer : tie.Need-add-answer Inv-loop μ-loop
-add-answer c = search needs
-
-mul-answer : tie.Need-mul-answer Inv-loop μ-loop
-mul-answer c = search needs
-
-element-write-answer : tie.Need-element-write-answer Inv-loop μ-loop
-element-write-answer c = search needs
-
-add-i : tie.Need-add-i Inv-loop μ-loop
-add-i c = search needs
-
-loop-less : tie.Need-loop-less Inv-loop μ-loop
-loop-less c = search needs
-
-loop-again : tie.Need-loop-again Inv-loop μ-loop
-loop-again c = search needs
-
-returns-3 : tie.Need-returns-3 Inv-loop μ-loop
-returns-3 c = search needs
-
 pub put-distances-spec : {M : Type 1} → statement M
 put-distances-spec =
     tie.close
     (tie.spec
     Inv-loop
     μ-loop
-    element-copy-out-n
-    returns
-    loop-holds
-    element-copy-out-if2
-    div-if2
-    returns-2
-    div-distance
-    rem-distance
-    distance-requires
-    distance-place-requires
-    add-answer
-    mul-answer
-    element-write-answer
-    add-i
-    loop-less
-    loop-again
-    returns-3)
+    (λ c. search needs)
+    (λ c. search needs)
+    (λ c. search needs)
+    (λ c. search needs)
+    (λ c. search needs)
+    (λ c. search needs)
+    (λ c. search needs)
+    (λ c. search needs)
+    (λ c κs. search needs)
+    (λ c κs. search needs)
+    (λ c. search needs)
+    (λ c. search needs)
+    (λ c. search needs)
+    (λ c. search needs)
+    (λ c. search needs)
+    (λ c. search needs)
+    (λ c. search needs))

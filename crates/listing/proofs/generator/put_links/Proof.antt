@@ -9,109 +9,34 @@ Inv-loop town₀ i n k₀ town k = Unit
 abbrev μ-loop : tie.MeasureT-loop
 μ-loop town₀ i n k₀ town k = 12 - k
 
-loop-holds : tie.Need-loop-holds Inv-loop μ-loop
-loop-holds c = search needs
-
-mul-at : tie.Need-mul-at Inv-loop μ-loop
-mul-at c = search needs
-
-add-at : tie.Need-add-at Inv-loop μ-loop
-add-at c = search needs
-
-roll-requires : tie.Need-roll-requires Inv-loop μ-loop
-roll-requires c κs = search needs
-
-mul-town : tie.Need-mul-town Inv-loop μ-loop
-mul-town c = search needs
-
-element-write-town : tie.Need-element-write-town Inv-loop μ-loop
-element-write-town c = search needs
-
-add-roll : tie.Need-add-roll Inv-loop μ-loop
-add-roll c = search needs
-
-roll-requires-2 : tie.Need-roll-requires-2 Inv-loop μ-loop
-roll-requires-2 c κs = search needs
-
-add-town : tie.Need-add-town Inv-loop μ-loop
-add-town c = search needs
-
-mul-town-2 : tie.Need-mul-town-2 Inv-loop μ-loop
-mul-town-2 c = search needs
-
-element-write-town-2 : tie.Need-element-write-town-2 Inv-loop μ-loop
-element-write-town-2 c = search needs
-
-add-cost : tie.Need-add-cost Inv-loop μ-loop
-add-cost c = search needs
-
-cost-requires : tie.Need-cost-requires Inv-loop μ-loop
-cost-requires c κs = search needs
-
-add-town-2 : tie.Need-add-town-2 Inv-loop μ-loop
-add-town-2 c = search needs
-
-mul-town-3 : tie.Need-mul-town-3 Inv-loop μ-loop
-mul-town-3 c = search needs
-
-element-write-town-3 : tie.Need-element-write-town-3 Inv-loop μ-loop
-element-write-town-3 c = search needs
-
-add-cost-2 : tie.Need-add-cost-2 Inv-loop μ-loop
-add-cost-2 c = search needs
-
-cost-requires-2 : tie.Need-cost-requires-2 Inv-loop μ-loop
-cost-requires-2 c κs = search needs
-
-add-town-3 : tie.Need-add-town-3 Inv-loop μ-loop
-add-town-3 c = search needs
-
-mul-town-4 : tie.Need-mul-town-4 Inv-loop μ-loop
-mul-town-4 c = search needs
-
-element-write-town-4 : tie.Need-element-write-town-4 Inv-loop μ-loop
-element-write-town-4 c = search needs
-
-add-k : tie.Need-add-k Inv-loop μ-loop
-add-k c = search needs
-
-loop-less : tie.Need-loop-less Inv-loop μ-loop
-loop-less c = search needs
-
-loop-again : tie.Need-loop-again Inv-loop μ-loop
-loop-again c = search needs
-
-returns : tie.Need-returns Inv-loop μ-loop
-returns c = search needs
-
 pub put-links-spec : {M : Type 1} → statement M
 put-links-spec =
     tie.close
     (tie.spec
     Inv-loop
     μ-loop
-    loop-holds
-    mul-at
-    add-at
-    roll-requires
-    mul-town
-    element-write-town
-    add-roll
-    roll-requires-2
-    add-town
-    mul-town-2
-    element-write-town-2
-    add-cost
-    cost-requires
-    add-town-2
-    mul-town-3
-    element-write-town-3
-    add-cost-2
-    cost-requires-2
-    add-town-3
-    mul-town-4
-    element-write-town-4
-    add-k
-    loop-less
-    loop-again
-    returns)
+    (λ c. search needs)
+    (λ c. search needs)
+    (λ c. search needs)
+    (λ c κs. search needs)
+    (λ c. search needs)
+    (λ c. search needs)
+    (λ c. search needs)
+    (λ c κs. search needs)
+    (λ c. search needs)
+    (λ c. search needs)
+    (λ c. search needs)
+    (λ c. search needs)
+    (λ c κs. search needs)
+    (λ c. search needs)
+    (λ c. search needs)
+    (λ c. search needs)
+    (λ c. search needs)
+    (λ c κs. search needs)
+    (λ c. search needs)
+    (λ c. search needs)
+    (λ c. search needs)
+    (λ c. search needs)
+    (λ c. search needs)
+    (λ c. search needs)
+    (λ c. search needs))

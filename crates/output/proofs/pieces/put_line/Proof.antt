@@ -16,23 +16,14 @@ abbrev μ-loop : tie.MeasureT-loop
 loop-holds : tie.Need-loop-holds Inv-loop μ-loop
 loop-holds c = (copied-none (omega (arith, c .before .pre .0 .within, c .before .pre .0 .size)) (omega (arith, c .before .pre .1)), c .before .pre .0 .size)
 
-array-read-text : tie.Need-array-read-text Inv-loop μ-loop
-array-read-text c = search needs
-
 room : (c : tie.In-loop Inv-loop μ-loop) → c .before .loop .end < length (c .before .loop .text)
 room c = omega (arith, copied-end (c .before .loop .inv .0), c .before .loop .inv .0 .put .size, c .before .before .before .pre .1)
 
 slice-write-text : tie.Need-slice-write-text Inv-loop μ-loop
 slice-write-text c = room c
 
-add-i : tie.Need-add-i Inv-loop μ-loop
-add-i c = search needs
-
 add-end : tie.Need-add-end Inv-loop μ-loop
 add-end c = omega (arith, room c, c .before .loop .inv .0 .put .size, c .before .before .before .good)
-
-loop-less : tie.Need-loop-less Inv-loop μ-loop
-loop-less c = search needs
 
 loop-again : tie.Need-loop-again Inv-loop μ-loop
 loop-again c = (copied-more (c .before .loop .inv .0) (omega (arith, c .before .loop .inv .1)) (room c), c .before .loop .inv .1)
@@ -50,11 +41,11 @@ put-line-spec =
     Inv-loop
     μ-loop
     loop-holds
-    array-read-text
+    (λ c. search needs)
     slice-write-text
-    add-i
+    (λ c. search needs)
     add-end
-    loop-less
+    (λ c. search needs)
     loop-again
     same-length
     returns)

@@ -17,12 +17,6 @@ abbrev μ-loop : tie.MeasureT-loop
 loop-holds : tie.Need-loop-holds Inv-loop μ-loop
 loop-holds c = stepping-none (omega (arith, c .before .before .before .before .pre .2)) (c .before .before .before .before .pre .0)
 
-mul-step : tie.Need-mul-step Inv-loop μ-loop
-mul-step c = search needs
-
-shared-slice-read-step : tie.Need-shared-slice-read-step Inv-loop μ-loop
-shared-slice-read-step c = search needs
-
 cast-step : tie.Need-cast-step Inv-loop μ-loop
 cast-step c = omega (arith, c .shared-slice-known4 .given (c .before .before .loop .i))
 
@@ -34,12 +28,6 @@ put-line-requires c κs = (reads-room (c .before .step-line .ensures), omega (ar
 
 node-after-requires : tie.Need-node-after-requires Inv-loop μ-loop
 node-after-requires c κs = step-takes (c .before .before .before .before .before .before .before .loop .inv) (search needs)
-
-add-i : tie.Need-add-i Inv-loop μ-loop
-add-i c = search needs
-
-loop-less : tie.Need-loop-less Inv-loop μ-loop
-loop-less c = search needs
 
 loop-again : tie.Need-loop-again Inv-loop μ-loop
 loop-again c = stepping-more (c .before .before .before .before .before .before .before .before .loop .inv) (search needs) (c .before .before .before .before .before .step-line .ensures) (c .before .before .before .put-line .ensures) (c .node-after .ensures)
@@ -57,14 +45,14 @@ put-steps-spec =
     Inv-loop
     μ-loop
     loop-holds
-    mul-step
-    shared-slice-read-step
+    (λ c. search needs)
+    (λ c. search needs)
     cast-step
     step-line-requires
     put-line-requires
     node-after-requires
-    add-i
-    loop-less
+    (λ c. search needs)
+    (λ c. search needs)
     loop-again
     same-length
     returns)

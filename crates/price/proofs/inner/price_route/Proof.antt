@@ -5,17 +5,8 @@ use borrow.Author.Needs.{needs}
 use Rattle.price.proofs.inner.price_route.Statement.{statement}
 use Rattle.price.proofs.inner.price_route.Tie as tie
 
-route-verdict-requires : tie.Need-route-verdict-requires
-route-verdict-requires c κs = search needs
-
-enum-known-verdict : tie.Need-enum-known-verdict
-enum-known-verdict c = search needs
-
 returns : tie.Need-returns
 returns c = refused _ (sym (c .before .before .before .route-verdict .ensures) ∙ c .before .verdict .given .1) refl refl
-
-enum-told : tie.Need-enum-told
-enum-told c = search needs
 
 driving-of-requires : tie.Need-driving-of-requires
 driving-of-requires c κs = (c .before .before .before .before .before .pre .0, route-accepted _ _ _ (sym (c .before .before .route-verdict .ensures) ∙ c .enum-told .given .1) .1)
@@ -38,10 +29,10 @@ pub price-route-spec : {M : Type 1} → statement M
 price-route-spec =
     tie.close
     (tie.spec
-    route-verdict-requires
-    enum-known-verdict
+    (λ c κs. search needs)
+    (λ c. search needs)
     returns
-    enum-told
+    (λ c. search needs)
     driving-of-requires
     meet-riders-requires
     returns-2)

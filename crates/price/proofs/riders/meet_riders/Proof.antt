@@ -54,9 +54,6 @@ mul-price-2 c = omega (arith, c .before .before .before .before .before .before 
 array-read-price : tie.Need-array-read-price Inv-loop μ-loop
 array-read-price c = omega (arith, c .before .before .before .before .before .before .before .before .before .before .pre .request .riders)
 
-cast-price : tie.Need-cast-price Inv-loop μ-loop
-cast-price c = search needs
-
 mul-price-3 : tie.Need-mul-price-3 Inv-loop μ-loop
 mul-price-3 c = omega (arith, mul-le-mul (c .before .before .before .before .before .before .before .before .before .before .pre .request .weights (c .before .before .before .before .before .loop .j) (c .before .before .before .if1 .taken) .1) (low c))
 
@@ -65,9 +62,6 @@ add-price c = omega (arith, mul-le-mul (c .before .before .before .before .befor
 
 add-j : tie.Need-add-j Inv-loop μ-loop
 add-j c = omega (arith, c .before .before .before .before .before .before .before .before .before .before .pre .request .riders)
-
-loop-less : tie.Need-loop-less Inv-loop μ-loop
-loop-less c = omega arith
 
 loop-again : tie.Need-loop-again Inv-loop μ-loop
 loop-again c =
@@ -94,10 +88,10 @@ meet-riders-spec =
     array-write-meetings
     mul-price-2
     array-read-price
-    cast-price
+    (λ c. search needs)
     mul-price-3
     add-price
     add-j
-    loop-less
+    (λ c. omega arith)
     loop-again
     returns-2)

@@ -29,29 +29,14 @@ loop-holds : tie.Need-loop-holds Inv-loop μ-loop
 unfolding nodeAt
 loop-holds c = (omega arith, sofar-first _ refl)
 
-link-at-requires : tie.Need-link-at-requires Inv-loop μ-loop
-link-at-requires c κs = search needs
-
 to-requires : tie.Need-to-requires Inv-loop μ-loop
 to-requires c κs = link-within (c .before .before .before .before .before .before .before .pre .1) _ (c .before .loop-test .taken) (c .link-at .ensures)
-
-add-closer : tie.Need-add-closer Inv-loop μ-loop
-add-closer c = search needs
 
 mul-closer : tie.Need-mul-closer Inv-loop μ-loop
 mul-closer c = omega (arith, end-below (c .before .before .before .before .before .before .before .before .pre .1) _ (c .before .before .loop-test .taken) (c .before .link-at .ensures) (c .to .ensures .value), c .before .before .before .before .before .before .before .before .pre .1 .sound .nodes)
 
 shared-slice-read-closer : tie.Need-shared-slice-read-closer Inv-loop μ-loop
 shared-slice-read-closer c = omega (arith, end-below (c .before .before .before .before .before .before .before .before .before .pre .1) _ (c .before .before .before .loop-test .taken) (c .before .before .link-at .ensures) (c .before .to .ensures .value))
-
-closer-requires : tie.Need-closer-requires Inv-loop μ-loop
-closer-requires c κs = search needs
-
-add-i : tie.Need-add-i Inv-loop μ-loop
-add-i c = search needs
-
-loop-less : tie.Need-loop-less Inv-loop μ-loop
-loop-less c = search needs
 
 loop-again : tie.Need-loop-again Inv-loop μ-loop
 loop-again c = (
@@ -75,13 +60,13 @@ nearest-by-spec =
     mul-t8
     shared-slice-read-t10
     loop-holds
-    link-at-requires
+    (λ c κs. search needs)
     to-requires
-    add-closer
+    (λ c. search needs)
     mul-closer
     shared-slice-read-closer
-    closer-requires
-    add-i
-    loop-less
+    (λ c κs. search needs)
+    (λ c. search needs)
+    (λ c. search needs)
     loop-again
     returns)

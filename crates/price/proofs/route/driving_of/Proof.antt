@@ -20,20 +20,11 @@ loop-holds : tie.Need-loop-holds Inv-loop μ-loop
 unfolding sum
 loop-holds c = (omega arith, refl, omega arith)
 
-link-at-requires : tie.Need-link-at-requires Inv-loop μ-loop
-link-at-requires c κs = search needs
-
 drive-requires : tie.Need-drive-requires Inv-loop μ-loop
 drive-requires c κs = omega (arith, c .before .before .before .before .before .pre .1 .links (c .before .before .loop .i) (c .before .loop-test .taken))
 
 add-driving : tie.Need-add-driving Inv-loop μ-loop
 add-driving c = omega (arith, c .before .before .before .before .before .before .pre .1 .few)
-
-add-i : tie.Need-add-i Inv-loop μ-loop
-add-i c = search needs
-
-loop-less : tie.Need-loop-less Inv-loop μ-loop
-loop-less c = search needs
 
 loop-again : tie.Need-loop-again Inv-loop μ-loop
 loop-again c = (
@@ -54,10 +45,10 @@ driving-of-spec =
     Inv-loop
     μ-loop
     loop-holds
-    link-at-requires
+    (λ c κs. search needs)
     drive-requires
     add-driving
-    add-i
-    loop-less
+    (λ c. search needs)
+    (λ c. search needs)
     loop-again
     returns)

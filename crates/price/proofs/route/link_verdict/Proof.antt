@@ -4,30 +4,12 @@ use borrow.Author.Needs.{needs}
 use Rattle.price.proofs.route.link_verdict.Statement.{statement}
 use Rattle.price.proofs.route.link_verdict.Tie as tie
 
-link-count-requires : tie.Need-link-count-requires
-link-count-requires c κs = search needs
-
-refused-requires : tie.Need-refused-requires
-refused-requires c κs = search needs
-
 returns : tie.Need-returns
 returns c = c .refused .ensures ∙ sym (link-33 _ _ _ _ (c .before .before .link-count .ensures .value) (c .before .if1 .taken))
-
-drive-requires : tie.Need-drive-requires
-drive-requires c κs = search needs
-
-from-requires : tie.Need-from-requires
-from-requires c κs = search needs
-
-refused-requires-2 : tie.Need-refused-requires-2
-refused-requires-2 c κs = search needs
 
 returns-2 : tie.Need-returns-2
 returns-2 c =
     c .refused2 .ensures ∙ sym (link-34 _ _ _ _ (c .before .before .before .before .before .link-count .ensures .value) (c .before .before .before .before .if1 .left) (c .before .before .before .drive .ensures .value) (c .before .if2 .taken))
-
-refused-requires-3 : tie.Need-refused-requires-3
-refused-requires-3 c κs = search needs
 
 returns-3 : tie.Need-returns-3
 returns-3 c =
@@ -43,13 +25,13 @@ pub link-verdict-spec : {M : Type 1} → statement M
 link-verdict-spec =
     tie.close
     (tie.spec
-    link-count-requires
-    refused-requires
+    (λ c κs. search needs)
+    (λ c κs. search needs)
     returns
-    drive-requires
-    from-requires
-    refused-requires-2
+    (λ c κs. search needs)
+    (λ c κs. search needs)
+    (λ c κs. search needs)
     returns-2
-    refused-requires-3
+    (λ c κs. search needs)
     returns-3
     returns-4)

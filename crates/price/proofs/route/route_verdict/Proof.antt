@@ -15,27 +15,12 @@ Inv-loop network q route node₀ i₀ node i = Passed (routeLinkChecks network q
 abbrev μ-loop : tie.MeasureT-loop
 μ-loop network q route node₀ i₀ node i = length route - i
 
-refused-requires : tie.Need-refused-requires Inv-loop μ-loop
-refused-requires c κs = search needs
-
 returns : tie.Need-returns Inv-loop μ-loop
 returns c = c .refused .ensures ∙ sym (route-32 _ _ _ (c .before .if1 .taken))
 
 loop-holds : tie.Need-loop-holds Inv-loop μ-loop
 unfolding nodeAt
 loop-holds c = (passed-none _ _, refl)
-
-link-at-requires : tie.Need-link-at-requires Inv-loop μ-loop
-link-at-requires c κs = search needs
-
-link-verdict-requires : tie.Need-link-verdict-requires Inv-loop μ-loop
-link-verdict-requires c κs = search needs
-
-enum-told : tie.Need-enum-told Inv-loop μ-loop
-enum-told c = search needs
-
-enum-told-2 : tie.Need-enum-told-2 Inv-loop μ-loop
-enum-told-2 c = search needs
 
 returns-2 : tie.Need-returns-2 Inv-loop μ-loop
 returns-2 c =
@@ -50,12 +35,6 @@ to-requires : tie.Need-to-requires Inv-loop μ-loop
 to-requires c κs =
     omega (arith, c .before .before .before .before .before .before .before .before .before .pre .whole, driven _ _ _ _ (sym (c .before .before .link-verdict .ensures) ∙ c .enum-told .given .1) .exists)
 
-add-i : tie.Need-add-i Inv-loop μ-loop
-add-i c = search needs
-
-loop-less : tie.Need-loop-less Inv-loop μ-loop
-loop-less c = search needs
-
 loop-again : tie.Need-loop-again Inv-loop μ-loop
 loop-again c =
     let at = c .before .before .before .before .before .before .loop in (
@@ -63,9 +42,6 @@ loop-again c =
           (rw (c .before .before .before .before .link-at .ensures, at .inv .1) at (sym (c .before .before .before .link-verdict .ensures) ∙ c .before .enum-told .given .1)),
       rw (c .to .ensures .value, c .before .before .before .before .link-at .ensures) (sym (node-next _ _ _ (at .i) (c .before .before .before .before .before .loop-test .taken))),
     )
-
-refused-requires-2 : tie.Need-refused-requires-2 Inv-loop μ-loop
-refused-requires-2 c κs = search needs
 
 returns-3 : tie.Need-returns-3 Inv-loop μ-loop
 returns-3 c =
@@ -88,18 +64,18 @@ route-verdict-spec =
     (tie.spec
     Inv-loop
     μ-loop
-    refused-requires
+    (λ c κs. search needs)
     returns
     loop-holds
-    link-at-requires
-    link-verdict-requires
-    enum-told
-    enum-told-2
+    (λ c κs. search needs)
+    (λ c κs. search needs)
+    (λ c. search needs)
+    (λ c. search needs)
     returns-2
     to-requires
-    add-i
-    loop-less
+    (λ c. search needs)
+    (λ c. search needs)
     loop-again
-    refused-requires-2
+    (λ c κs. search needs)
     returns-3
     returns-4)

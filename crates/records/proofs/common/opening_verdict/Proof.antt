@@ -4,34 +4,13 @@ use borrow.Author.Needs.{needs}
 use Rattle.records.proofs.common.opening_verdict.Statement.{statement}
 use Rattle.records.proofs.common.opening_verdict.Tie as tie
 
-refused-requires : tie.Need-refused-requires
-refused-requires c κs = search needs
-
 returns : tie.Need-returns
 returns c = c .refused .ensures ∙ sym (opening-1 _ _ _ (c .before .if1 .taken))
-
-byte-requires : tie.Need-byte-requires
-byte-requires c κs = search needs
-
-add-refused : tie.Need-add-refused
-add-refused c = search needs
-
-refused-requires-2 : tie.Need-refused-requires-2
-refused-requires-2 c κs = search needs
 
 returns-2 : tie.Need-returns-2
 returns-2 c =
     c .refused2 .ensures
     ∙ sym (opening-2 _ _ _ (c .before .before .before .if1 .left) (c .before .before .byte .ensures .value) (c .before .if2 .taken))
-
-number-requires : tie.Need-number-requires
-number-requires c κs = search needs
-
-add-refused-2 : tie.Need-add-refused-2
-add-refused-2 c = search needs
-
-refused-requires-3 : tie.Need-refused-requires-3
-refused-requires-3 c κs = search needs
 
 returns-3 : tie.Need-returns-3
 returns-3 c =
@@ -50,14 +29,14 @@ pub opening-verdict-spec : {M : Type 1} → statement M
 opening-verdict-spec =
     tie.close
     (tie.spec
-    refused-requires
+    (λ c κs. search needs)
     returns
-    byte-requires
-    add-refused
-    refused-requires-2
+    (λ c κs. search needs)
+    (λ c. search needs)
+    (λ c κs. search needs)
     returns-2
-    number-requires
-    add-refused-2
-    refused-requires-3
+    (λ c κs. search needs)
+    (λ c. search needs)
+    (λ c κs. search needs)
     returns-3
     returns-4)

@@ -4,9 +4,6 @@ use borrow.Author.Needs.{needs}
 use Rattle.records.proofs.inner.byte.Statement.{statement}
 use Rattle.records.proofs.inner.byte.Tie as tie
 
-shared-slice-read-result : tie.Need-shared-slice-read-result
-shared-slice-read-result c = search needs
-
 cast-result : tie.Need-cast-result
 cast-result c = omega (arith, c .shared-slice-known .given (c .before .args .i))
 
@@ -18,4 +15,4 @@ returns c =
     }
 
 pub byte-spec : {M : Type 1} → statement M
-byte-spec = tie.close (tie.spec shared-slice-read-result cast-result returns)
+byte-spec = tie.close (tie.spec (λ c. search needs) cast-result returns)

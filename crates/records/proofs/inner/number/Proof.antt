@@ -17,20 +17,8 @@ loop-holds c = (omega arith, read-none _ _)
 mul-x : tie.Need-mul-x Inv-loop μ-loop
 mul-x c = omega (arith, few-bytes (c .before .loop .k) (omega arith))
 
-add-byte : tie.Need-add-byte Inv-loop μ-loop
-add-byte c = omega arith
-
-byte-requires : tie.Need-byte-requires Inv-loop μ-loop
-byte-requires c κs = omega arith
-
 add-x : tie.Need-add-x Inv-loop μ-loop
 add-x c = omega (arith, few-bytes (c .before .before .loop .k) (omega arith))
-
-add-k : tie.Need-add-k Inv-loop μ-loop
-add-k c = omega arith
-
-loop-less : tie.Need-loop-less Inv-loop μ-loop
-loop-less c = omega arith
 
 loop-again : tie.Need-loop-again Inv-loop μ-loop
 loop-again c = (
@@ -51,10 +39,10 @@ number-spec =
     μ-loop
     loop-holds
     mul-x
-    add-byte
-    byte-requires
+    (λ c. omega arith)
+    (λ c κs. omega arith)
     add-x
-    add-k
-    loop-less
+    (λ c. omega arith)
+    (λ c. omega arith)
     loop-again
     returns)

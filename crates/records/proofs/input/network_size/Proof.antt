@@ -6,9 +6,6 @@ use Rattle.records.proofs.input.network_size.Tie as tie
 returns : tie.Need-returns
 returns c = simp (lt-ltb _ _ (c .if1 .taken))
 
-number-requires : tie.Need-number-requires
-number-requires c κs = search needs
-
 returns-2 : tie.Need-returns-2
 returns-2 c = rw (← c .before .number .ensures) (simp (le-ltb _ _ (c .before .before .if1 .left), lt-ltb _ _ (c .if2 .taken)))
 
@@ -16,4 +13,4 @@ returns-3 : tie.Need-returns-3
 returns-3 c = rw (← c .before .number .ensures) (simp (le-ltb _ _ (c .before .before .if1 .left), le-ltb _ _ (c .if2 .left)))
 
 pub network-size-spec : {M : Type 1} → statement M
-network-size-spec = tie.close (tie.spec returns number-requires returns-2 returns-3)
+network-size-spec = tie.close (tie.spec returns (λ c κs. search needs) returns-2 returns-3)

@@ -8,18 +8,6 @@ use borrow.Author.Needs.{needs}
 use Rattle.records.proofs.network.link.Statement.{statement}
 use Rattle.records.proofs.network.link.Tie as tie
 
-read-network-requires : tie.Need-read-network-requires
-read-network-requires c κs = search needs
-
-sub-result : tie.Need-sub-result
-sub-result c = search needs
-
-part-result-start : tie.Need-part-result-start
-part-result-start c = search needs
-
-part-result-end : tie.Need-part-result-end
-part-result-end c = search needs
-
 returns : tie.Need-returns
 returns c =
     let absent : hasLink (c .before .before .before .before .args .network .now) (c .before .before .before .before .args .k) ≡ false =
@@ -35,12 +23,6 @@ add-start c = omega (arith, link-fits _ _ (rw (c .before .read-network .ensures)
 add-end : tie.Need-add-end
 add-end c = omega (arith, link-fits _ _ (rw (c .before .read-network .ensures) at (c .if1 .left)))
 
-sub-result-2 : tie.Need-sub-result-2
-sub-result-2 c = search needs
-
-part-result-start-2 : tie.Need-part-result-start-2
-part-result-start-2 c = search needs
-
 part-result-end-2 : tie.Need-part-result-end-2
 part-result-end-2 c = omega (arith, link-fits _ _ (rw (c .before .read-network .ensures) at (c .if1 .left)))
 
@@ -54,15 +36,15 @@ pub link-spec : {M : Type 1} → statement M
 link-spec =
     tie.close
     (tie.spec
-    read-network-requires
-    sub-result
-    part-result-start
-    part-result-end
+    (λ c κs. search needs)
+    (λ c. search needs)
+    (λ c. search needs)
+    (λ c. search needs)
     returns
     mul-start
     add-start
     add-end
-    sub-result-2
-    part-result-start-2
+    (λ c. search needs)
+    (λ c. search needs)
     part-result-end-2
     returns-2)

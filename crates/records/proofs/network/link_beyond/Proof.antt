@@ -3,15 +3,9 @@ use borrow.Author.Needs.{needs}
 use Rattle.records.proofs.network.link_beyond.Statement.{statement}
 use Rattle.records.proofs.network.link_beyond.Tie as tie
 
-from-requires : tie.Need-from-requires
-from-requires c κs = search needs
-
 returns : tie.Need-returns
 returns c =
     rw (← c .before .before .before .pre .0, ← c .before .from .ensures .value) (simp (le-leb _ _ (c .if1 .taken)))
-
-to-requires : tie.Need-to-requires
-to-requires c κs = search needs
 
 returns-2 : tie.Need-returns-2
 returns-2 c =
@@ -19,4 +13,4 @@ returns-2 c =
     (simp (lt-leb _ _ (c .before .if1 .left)))
 
 pub link-beyond-spec : {M : Type 1} → statement M
-link-beyond-spec = tie.close (tie.spec from-requires returns to-requires returns-2)
+link-beyond-spec = tie.close (tie.spec (λ c κs. search needs) returns (λ c κs. search needs) returns-2)

@@ -14,20 +14,8 @@ Inv-loop network n m k₀ k = Passed (linkChecks network) m k
 abbrev μ-loop : tie.MeasureT-loop
 μ-loop network n m k₀ k = m - k
 
-node-count-requires : tie.Need-node-count-requires Inv-loop μ-loop
-node-count-requires c κs = search needs
-
-link-count-requires : tie.Need-link-count-requires Inv-loop μ-loop
-link-count-requires c κs = search needs
-
 loop-holds : tie.Need-loop-holds Inv-loop μ-loop
 loop-holds c = passed-none _ _
-
-link-beyond-requires : tie.Need-link-beyond-requires Inv-loop μ-loop
-link-beyond-requires c κs = search needs
-
-refused-requires : tie.Need-refused-requires Inv-loop μ-loop
-refused-requires c κs = search needs
 
 returns : tie.Need-returns Inv-loop μ-loop
 returns c =
@@ -37,12 +25,6 @@ returns c =
     ∙ sym
     (passed-until _ _ (at .k) (at .inv) (refuse 6 (at .k)) (c .before .before .before .loop-test .taken)
     (given 6 (at .k) [] (sym (c .before .before .link-beyond .ensures) ∙ c .before .if1 .taken))))
-
-add-k : tie.Need-add-k Inv-loop μ-loop
-add-k c = search needs
-
-loop-less : tie.Need-loop-less Inv-loop μ-loop
-loop-less c = search needs
 
 loop-again : tie.Need-loop-again Inv-loop μ-loop
 unfolding firstOf
@@ -60,13 +42,13 @@ links-verdict-spec =
     (tie.spec
     Inv-loop
     μ-loop
-    node-count-requires
-    link-count-requires
+    (λ c κs. search needs)
+    (λ c κs. search needs)
     loop-holds
-    link-beyond-requires
-    refused-requires
+    (λ c κs. search needs)
+    (λ c κs. search needs)
     returns
-    add-k
-    loop-less
+    (λ c. search needs)
+    (λ c. search needs)
     loop-again
     returns-2)

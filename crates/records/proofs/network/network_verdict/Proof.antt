@@ -8,27 +8,12 @@ use borrow.Author.Needs.{needs}
 use Rattle.records.proofs.network.network_verdict.Statement.{statement}
 use Rattle.records.proofs.network.network_verdict.Tie as tie
 
-opening-verdict-requires : tie.Need-opening-verdict-requires
-opening-verdict-requires c κs = search needs
-
-enum-told : tie.Need-enum-told
-enum-told c = search needs
-
-enum-told-2 : tie.Need-enum-told-2
-enum-told-2 c = search needs
-
 returns : tie.Need-returns
 unfolding networkVerdict networkChecks
 returns c = stops _ _ (c .enum-told2 .given .0 .0) (c .before .before .opening-verdict .ensures) (c .enum-told2 .given .1)
 
 sizes-verdict-requires : tie.Need-sizes-verdict-requires
 sizes-verdict-requires c κs = opening-accepted 1 4 _ (sym (c .before .before .opening-verdict .ensures) ∙ c .enum-told .given .1) .long
-
-enum-told-3 : tie.Need-enum-told-3
-enum-told-3 c = search needs
-
-enum-told-4 : tie.Need-enum-told-4
-enum-told-4 c = search needs
 
 returns-2 : tie.Need-returns-2
 unfolding networkVerdict networkChecks
@@ -51,13 +36,13 @@ pub network-verdict-spec : {M : Type 1} → statement M
 network-verdict-spec =
     tie.close
     (tie.spec
-    opening-verdict-requires
-    enum-told
-    enum-told-2
+    (λ c κs. search needs)
+    (λ c. search needs)
+    (λ c. search needs)
     returns
     sizes-verdict-requires
-    enum-told-3
-    enum-told-4
+    (λ c. search needs)
+    (λ c. search needs)
     returns-2
     links-verdict-requires
     returns-3)

@@ -7,15 +7,6 @@ use borrow.Author.Needs.{needs}
 use Rattle.records.proofs.network.read_network.Statement.{statement}
 use Rattle.records.proofs.network.read_network.Tie as tie
 
-network-verdict-requires : tie.Need-network-verdict-requires
-network-verdict-requires c κs = search needs
-
-enum-told : tie.Need-enum-told
-enum-told c = search needs
-
-enum-told-2 : tie.Need-enum-told-2
-enum-told-2 c = search needs
-
 returns : tie.Need-returns
 unfolding networkOf
 returns c = rw (← c .before .before .network-verdict .ensures, c .enum-told2 .given .1)
@@ -35,9 +26,9 @@ pub read-network-spec : {M : Type 1} → statement M
 read-network-spec =
     tie.close
     (tie.spec
-    network-verdict-requires
-    enum-told
-    enum-told-2
+    (λ c κs. search needs)
+    (λ c. search needs)
+    (λ c. search needs)
     returns
     node-count-requires
     link-count-requires

@@ -4,23 +4,8 @@ use borrow.Author.Needs.{needs}
 use Rattle.records.proofs.request.count_verdict.Statement.{statement}
 use Rattle.records.proofs.request.count_verdict.Tie as tie
 
-rider-count-requires : tie.Need-rider-count-requires
-rider-count-requires c κs = search needs
-
-refused-requires : tie.Need-refused-requires
-refused-requires c κs = search needs
-
 returns : tie.Need-returns
 returns c = c .refused .ensures ∙ sym (count-14 _ (c .before .before .rider-count .ensures .value) (c .before .if1 .taken))
-
-mul-if2 : tie.Need-mul-if2
-mul-if2 c = search needs
-
-add-if2 : tie.Need-add-if2
-add-if2 c = search needs
-
-refused-requires-2 : tie.Need-refused-requires-2
-refused-requires-2 c κs = search needs
 
 returns-2 : tie.Need-returns-2
 returns-2 c =
@@ -34,11 +19,11 @@ pub count-verdict-spec : {M : Type 1} → statement M
 count-verdict-spec =
     tie.close
     (tie.spec
-    rider-count-requires
-    refused-requires
+    (λ c κs. search needs)
+    (λ c κs. search needs)
     returns
-    mul-if2
-    add-if2
-    refused-requires-2
+    (λ c. search needs)
+    (λ c. search needs)
+    (λ c κs. search needs)
     returns-2
     returns-3)

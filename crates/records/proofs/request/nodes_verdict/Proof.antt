@@ -6,22 +6,10 @@ use borrow.Author.Needs.{needs}
 use Rattle.records.proofs.request.nodes_verdict.Statement.{statement}
 use Rattle.records.proofs.request.nodes_verdict.Tie as tie
 
-request-source-requires : tie.Need-request-source-requires
-request-source-requires c κs = search needs
-
-request-target-requires : tie.Need-request-target-requires
-request-target-requires c κs = search needs
-
-refused-requires : tie.Need-refused-requires
-refused-requires c κs = search needs
-
 returns : tie.Need-returns
 unfolding nodeChecks
 returns c =
     c .refused .ensures ∙ sym (given 16 0 _ (rw (c .before .before .before .request-source .ensures .value) at (le-leb _ _ (c .before .if1 .taken))))
-
-refused-requires-2 : tie.Need-refused-requires-2
-refused-requires-2 c κs = search needs
 
 returns-2 : tie.Need-returns-2
 unfolding nodeChecks
@@ -30,9 +18,6 @@ returns-2 c =
     ∙ sym
     (passed 16 0 _ (rw (c .before .before .before .before .request-source .ensures .value) at (lt-leb _ _ (c .before .before .if1 .left)))
     ∙ given 16 1 _ (rw (c .before .before .before .request-target .ensures .value) at (le-leb _ _ (c .before .if2 .taken))))
-
-rider-nodes-verdict-requires : tie.Need-rider-nodes-verdict-requires
-rider-nodes-verdict-requires c κs = search needs
 
 returns-3 : tie.Need-returns-3
 unfolding nodeChecks
@@ -46,11 +31,11 @@ pub nodes-verdict-spec : {M : Type 1} → statement M
 nodes-verdict-spec =
     tie.close
     (tie.spec
-    request-source-requires
-    request-target-requires
-    refused-requires
+    (λ c κs. search needs)
+    (λ c κs. search needs)
+    (λ c κs. search needs)
     returns
-    refused-requires-2
+    (λ c κs. search needs)
     returns-2
-    rider-nodes-verdict-requires
+    (λ c κs. search needs)
     returns-3)

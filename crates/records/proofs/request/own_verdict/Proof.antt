@@ -9,27 +9,12 @@ use borrow.Author.Needs.{needs}
 use Rattle.records.proofs.request.own_verdict.Statement.{statement}
 use Rattle.records.proofs.request.own_verdict.Tie as tie
 
-opening-verdict-requires : tie.Need-opening-verdict-requires
-opening-verdict-requires c κs = search needs
-
-enum-told : tie.Need-enum-told
-enum-told c = search needs
-
-enum-told-2 : tie.Need-enum-told-2
-enum-told-2 c = search needs
-
 returns : tie.Need-returns
 unfolding requestChecks
 returns c = stops _ _ (c .enum-told2 .given .0 .0) (c .before .before .opening-verdict .ensures) (c .enum-told2 .given .1)
 
 count-verdict-requires : tie.Need-count-verdict-requires
 count-verdict-requires c κs = opening-accepted 11 2 _ (sym (c .before .before .opening-verdict .ensures) ∙ c .enum-told .given .1) .long
-
-enum-told-3 : tie.Need-enum-told-3
-enum-told-3 c = search needs
-
-enum-told-4 : tie.Need-enum-told-4
-enum-told-4 c = search needs
 
 returns-2 : tie.Need-returns-2
 unfolding requestChecks
@@ -40,12 +25,6 @@ returns-2 c =
 nodes-verdict-requires : tie.Need-nodes-verdict-requires
 nodes-verdict-requires c κs =
     le-of-eq (sym (count-accepted _ (sym (c .before .before .count-verdict .ensures) ∙ c .enum-told3 .given .1) .whole))
-
-enum-told-5 : tie.Need-enum-told-5
-enum-told-5 c = search needs
-
-enum-told-6 : tie.Need-enum-told-6
-enum-told-6 c = search needs
 
 returns-3 : tie.Need-returns-3
 unfolding requestChecks
@@ -70,17 +49,17 @@ pub own-verdict-spec : {M : Type 1} → statement M
 own-verdict-spec =
     tie.close
     (tie.spec
-    opening-verdict-requires
-    enum-told
-    enum-told-2
+    (λ c κs. search needs)
+    (λ c. search needs)
+    (λ c. search needs)
     returns
     count-verdict-requires
-    enum-told-3
-    enum-told-4
+    (λ c. search needs)
+    (λ c. search needs)
     returns-2
     nodes-verdict-requires
-    enum-told-5
-    enum-told-6
+    (λ c. search needs)
+    (λ c. search needs)
     returns-3
     weights-verdict-requires
     returns-4)

@@ -6,18 +6,6 @@ use borrow.Author.Needs.{needs}
 use Rattle.records.proofs.request.read_request.Statement.{statement}
 use Rattle.records.proofs.request.read_request.Tie as tie
 
-request-verdict-requires : tie.Need-request-verdict-requires
-request-verdict-requires c κs = search needs
-
-enum-told : tie.Need-enum-told
-enum-told c = search needs
-
-enum-told-2 : tie.Need-enum-told-2
-enum-told-2 c = search needs
-
-no-request-requires : tie.Need-no-request-requires
-no-request-requires c κs = search needs
-
 returns : tie.Need-returns
 unfolding requestOf
 returns c = rw (← c .before .before .before .request-verdict .ensures, c .before .enum-told2 .given .1, c .no-request .ensures)
@@ -35,10 +23,10 @@ pub read-request-spec : {M : Type 1} → statement M
 read-request-spec =
     tie.close
     (tie.spec
-    request-verdict-requires
-    enum-told
-    enum-told-2
-    no-request-requires
+    (λ c κs. search needs)
+    (λ c. search needs)
+    (λ c. search needs)
+    (λ c κs. search needs)
     returns
     request-value-requires
     returns-2)

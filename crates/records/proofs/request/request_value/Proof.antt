@@ -3,24 +3,6 @@ use borrow.Author.Needs.{needs}
 use Rattle.records.proofs.request.request_value.Statement.{statement}
 use Rattle.records.proofs.request.request_value.Tie as tie
 
-rider-count-requires : tie.Need-rider-count-requires
-rider-count-requires c κs = search needs
-
-request-source-requires : tie.Need-request-source-requires
-request-source-requires c κs = search needs
-
-request-target-requires : tie.Need-request-target-requires
-request-target-requires c κs = search needs
-
-bus-weight-requires : tie.Need-bus-weight-requires
-bus-weight-requires c κs = search needs
-
-rider-nodes-requires : tie.Need-rider-nodes-requires
-rider-nodes-requires c κs = search needs
-
-rider-weights-requires : tie.Need-rider-weights-requires
-rider-weights-requires c κs = search needs
-
 returns : tie.Need-returns
 unfolding requestValue
 returns c =
@@ -37,10 +19,10 @@ pub request-value-spec : {M : Type 1} → statement M
 request-value-spec =
     tie.close
     (tie.spec
-    rider-count-requires
-    request-source-requires
-    request-target-requires
-    bus-weight-requires
-    rider-nodes-requires
-    rider-weights-requires
+    (λ c κs. search needs)
+    (λ c κs. search needs)
+    (λ c κs. search needs)
+    (λ c κs. search needs)
+    (λ c κs. search needs)
+    (λ c κs. search needs)
     returns)

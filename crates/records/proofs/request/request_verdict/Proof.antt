@@ -9,15 +9,6 @@ use borrow.Author.Needs.{needs}
 use Rattle.records.proofs.request.request_verdict.Statement.{statement}
 use Rattle.records.proofs.request.request_verdict.Tie as tie
 
-network-verdict-requires : tie.Need-network-verdict-requires
-network-verdict-requires c κs = search needs
-
-enum-told : tie.Need-enum-told
-enum-told c = search needs
-
-enum-told-2 : tie.Need-enum-told-2
-enum-told-2 c = search needs
-
 returns : tie.Need-returns
 unfolding requestVerdict networkVerdict
 returns c = stops _ _ (c .enum-told2 .given .0 .0) (c .before .before .network-verdict .ensures) (c .enum-told2 .given .1)
@@ -25,9 +16,6 @@ returns c = stops _ _ (c .enum-told2 .given .0 .0) (c .before .before .network-v
 node-count-requires : tie.Need-node-count-requires
 node-count-requires c κs =
     omega (arith, network-sound _ (sym (c .before .before .network-verdict .ensures) ∙ c .enum-told .given .1) .long)
-
-own-verdict-requires : tie.Need-own-verdict-requires
-own-verdict-requires c κs = search needs
 
 returns-2 : tie.Need-returns-2
 unfolding requestVerdict networkVerdict
@@ -39,10 +27,10 @@ pub request-verdict-spec : {M : Type 1} → statement M
 request-verdict-spec =
     tie.close
     (tie.spec
-    network-verdict-requires
-    enum-told
-    enum-told-2
+    (λ c κs. search needs)
+    (λ c. search needs)
+    (λ c. search needs)
     returns
     node-count-requires
-    own-verdict-requires
+    (λ c κs. search needs)
     returns-2)

@@ -15,20 +15,8 @@ Inv-loop request n count j₀ j = Passed (riderNodeChecks n request) count j
 abbrev μ-loop : tie.MeasureT-loop
 μ-loop request n count j₀ j = count - j
 
-rider-count-requires : tie.Need-rider-count-requires Inv-loop μ-loop
-rider-count-requires c κs = search needs
-
 loop-holds : tie.Need-loop-holds Inv-loop μ-loop
 loop-holds c = passed-none _ _
-
-rider-node-requires : tie.Need-rider-node-requires Inv-loop μ-loop
-rider-node-requires c κs = search needs
-
-add-refused : tie.Need-add-refused Inv-loop μ-loop
-add-refused c = search needs
-
-refused-requires : tie.Need-refused-requires Inv-loop μ-loop
-refused-requires c κs = search needs
 
 returns : tie.Need-returns Inv-loop μ-loop
 returns c =
@@ -38,12 +26,6 @@ returns c =
     ∙ sym
     (passed-until _ _ (at .j) (at .inv) (refuse 16 (2 + at .j)) (c .before .before .before .loop-test .taken)
     (given 16 (2 + at .j) [] (rw (← c .before .before .rider-node .ensures .value) (le-leb _ _ (c .before .if1 .taken))))))
-
-add-j : tie.Need-add-j Inv-loop μ-loop
-add-j c = search needs
-
-loop-less : tie.Need-loop-less Inv-loop μ-loop
-loop-less c = search needs
 
 loop-again : tie.Need-loop-again Inv-loop μ-loop
 unfolding firstOf
@@ -61,13 +43,13 @@ rider-nodes-verdict-spec =
     (tie.spec
     Inv-loop
     μ-loop
-    rider-count-requires
+    (λ c κs. search needs)
     loop-holds
-    rider-node-requires
-    add-refused
-    refused-requires
+    (λ c κs. search needs)
+    (λ c. search needs)
+    (λ c κs. search needs)
     returns
-    add-j
-    loop-less
+    (λ c. search needs)
+    (λ c. search needs)
     loop-again
     returns-2)

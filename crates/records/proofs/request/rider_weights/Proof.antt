@@ -19,21 +19,6 @@ loop-holds : tie.Need-loop-holds Inv-loop μ-loop
 unfolding sevenPlaces
 loop-holds c = (omega arith, refl)
 
-rider-weight-requires : tie.Need-rider-weight-requires Inv-loop μ-loop
-rider-weight-requires c κs = search needs
-
-mul-weights : tie.Need-mul-weights Inv-loop μ-loop
-mul-weights c = search needs
-
-array-write-weights : tie.Need-array-write-weights Inv-loop μ-loop
-array-write-weights c = omega arith
-
-add-j : tie.Need-add-j Inv-loop μ-loop
-add-j c = search needs
-
-loop-less : tie.Need-loop-less Inv-loop μ-loop
-loop-less c = search needs
-
 loop-again : tie.Need-loop-again Inv-loop μ-loop
 loop-again c = (
   omega arith,
@@ -53,10 +38,10 @@ rider-weights-spec =
     Inv-loop
     μ-loop
     loop-holds
-    rider-weight-requires
-    mul-weights
-    array-write-weights
-    add-j
-    loop-less
+    (λ c κs. search needs)
+    (λ c. search needs)
+    (λ c. omega arith)
+    (λ c. search needs)
+    (λ c. search needs)
     loop-again
     returns)

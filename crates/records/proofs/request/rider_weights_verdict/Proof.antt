@@ -14,23 +14,8 @@ Inv-loop request count j₀ j = Passed (riderWeightChecks request) count j
 abbrev μ-loop : tie.MeasureT-loop
 μ-loop request count j₀ j = count - j
 
-rider-count-requires : tie.Need-rider-count-requires Inv-loop μ-loop
-rider-count-requires c κs = search needs
-
 loop-holds : tie.Need-loop-holds Inv-loop μ-loop
 loop-holds c = passed-none _ _
-
-rider-weight-requires : tie.Need-rider-weight-requires Inv-loop μ-loop
-rider-weight-requires c κs = search needs
-
-outside-requires : tie.Need-outside-requires Inv-loop μ-loop
-outside-requires c κs = search needs
-
-add-refused : tie.Need-add-refused Inv-loop μ-loop
-add-refused c = search needs
-
-refused-requires : tie.Need-refused-requires Inv-loop μ-loop
-refused-requires c κs = search needs
 
 returns : tie.Need-returns Inv-loop μ-loop
 returns c =
@@ -41,12 +26,6 @@ returns c =
     (passed-until _ _ (at .j) (at .inv) (refuse 17 (1 + at .j)) (c .before .before .before .before .loop-test .taken)
     (given 17 (1 + at .j) []
     (rw (← c .before .before .before .rider-weight .ensures .value) (sym (c .before .before .outside .ensures) ∙ c .before .if1 .taken)))))
-
-add-j : tie.Need-add-j Inv-loop μ-loop
-add-j c = search needs
-
-loop-less : tie.Need-loop-less Inv-loop μ-loop
-loop-less c = search needs
 
 loop-again : tie.Need-loop-again Inv-loop μ-loop
 unfolding firstOf
@@ -64,14 +43,14 @@ rider-weights-verdict-spec =
     (tie.spec
     Inv-loop
     μ-loop
-    rider-count-requires
+    (λ c κs. search needs)
     loop-holds
-    rider-weight-requires
-    outside-requires
-    add-refused
-    refused-requires
+    (λ c κs. search needs)
+    (λ c κs. search needs)
+    (λ c. search needs)
+    (λ c κs. search needs)
     returns
-    add-j
-    loop-less
+    (λ c. search needs)
+    (λ c. search needs)
     loop-again
     returns-2)

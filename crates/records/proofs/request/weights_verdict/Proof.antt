@@ -5,23 +5,11 @@ use borrow.Author.Needs.{needs}
 use Rattle.records.proofs.request.weights_verdict.Statement.{statement}
 use Rattle.records.proofs.request.weights_verdict.Tie as tie
 
-bus-weight-requires : tie.Need-bus-weight-requires
-bus-weight-requires c κs = search needs
-
-outside-requires : tie.Need-outside-requires
-outside-requires c κs = search needs
-
-refused-requires : tie.Need-refused-requires
-refused-requires c κs = search needs
-
 returns : tie.Need-returns
 unfolding weightChecks
 returns c =
     c .refused .ensures
     ∙ sym (given 17 0 _ (rw (c .before .before .before .bus-weight .ensures .value) at (sym (c .before .before .outside .ensures) ∙ c .before .if1 .taken)))
-
-rider-weights-verdict-requires : tie.Need-rider-weights-verdict-requires
-rider-weights-verdict-requires c κs = search needs
 
 returns-2 : tie.Need-returns-2
 unfolding weightChecks
@@ -33,9 +21,9 @@ pub weights-verdict-spec : {M : Type 1} → statement M
 weights-verdict-spec =
     tie.close
     (tie.spec
-    bus-weight-requires
-    outside-requires
-    refused-requires
+    (λ c κs. search needs)
+    (λ c κs. search needs)
+    (λ c κs. search needs)
     returns
-    rider-weights-verdict-requires
+    (λ c κs. search needs)
     returns-2)

@@ -8,17 +8,8 @@ use borrow.Author.Needs.{needs}
 use Rattle.search.proofs.inner.plan.Statement.{statement}
 use Rattle.search.proofs.inner.plan.Tie as tie
 
-fill-distances-requires : tie.Need-fill-distances-requires
-fill-distances-requires c κs = search needs
-
 fill-table-requires : tie.Need-fill-table-requires
 fill-table-requires c κs = (distances-walked (ready (c .before .before .before .before .before .before .before .before .before .before .pre)) (c .before .before .before .before .fill-distances .ensures), c .before .before .before .before .before .before .before .before .before .before .pre .enough .table)
-
-cast-rider-bit : tie.Need-cast-rider-bit
-cast-rider-bit c = search needs
-
-rider-bit-requires : tie.Need-rider-bit-requires
-rider-bit-requires c κs = search needs
 
 sub-value : tie.Need-sub-value
 sub-value c = omega (arith, c .rider-bit .ensures, pow-pos (c .before .before .before .before .before .before .before .before .before .before .before .before .before .before .before .before .args .q .count))
@@ -28,26 +19,11 @@ value-requires c κs =
     value-ready (known (c .before .before .before .before .before .before .before .before .before .before .before .before .before .before .before .before .pre) (c .before .before .before .before .before .before .before .before .before .before .fill-distances .ensures) (c .before .before .before .before .before .fill-table .ensures)) (omega (arith, c .rider-bit .ensures, pow-pos (c .before .before .before .before .before .before .before .before .before .before .before .before .before .before .before .before .args .q .count)))
     (c .before .before .before .before .before .before .before .before .before .before .before .before .before .before .before .before .pre .request .starts)
 
-same-length : tie.Need-same-length
-same-length c = search needs
-
-same-length-2 : tie.Need-same-length-2
-same-length-2 c = search needs
-
 returns : tie.Need-returns
 returns c = answer-24 (c .before .before .before .before .before .before .before .before .before .before .before .before .before .before .before .before .before .before .pre) (c .before .before .before .before .before .before .before .before .before .before .before .before .fill-distances .ensures) (c .before .before .before .before .before .before .before .fill-table .ensures) (rw (c .before .before .rider-bit .ensures) at (c .before .value .ensures)) (c .if1 .taken)
 
 read-plan-requires : tie.Need-read-plan-requires
 read-plan-requires c κs = planning (c .before .before .before .before .before .before .before .before .before .before .before .before .before .before .before .before .before .before .before .before .before .pre) (c .before .before .before .before .before .before .before .before .before .before .before .before .before .before .before .fill-distances .ensures) (c .before .before .before .before .before .before .before .before .before .before .fill-table .ensures) (rw (c .before .before .before .before .before .rider-bit .ensures) at (c .before .before .before .before .value .ensures)) (c .before .before .before .if1 .left)
-
-same-length-3 : tie.Need-same-length-3
-same-length-3 c = search needs
-
-same-length-4 : tie.Need-same-length-4
-same-length-4 c = search needs
-
-same-length-5 : tie.Need-same-length-5
-same-length-5 c = search needs
 
 returns-2 : tie.Need-returns-2
 returns-2 c = answer-plan (c .before .before .before .before .before .before .before .before .before .before .before .before .before .before .before .before .before .before .before .before .before .before .before .before .pre) (c .before .before .before .before .before .before .before .before .before .before .before .before .before .before .before .before .before .before .fill-distances .ensures) (c .before .before .before .before .before .before .before .before .before .before .before .before .before .fill-table .ensures) (rw (c .before .before .before .before .before .before .before .before .rider-bit .ensures) at (c .before .before .before .before .before .before .before .value .ensures)) (c .before .before .read-plan .ensures)
@@ -56,17 +32,17 @@ pub plan-spec : {M : Type 1} → statement M
 plan-spec =
     tie.close
     (tie.spec
-    fill-distances-requires
+    (λ c κs. search needs)
     fill-table-requires
-    cast-rider-bit
-    rider-bit-requires
+    (λ c. search needs)
+    (λ c κs. search needs)
     sub-value
     value-requires
-    same-length
-    same-length-2
+    (λ c. search needs)
+    (λ c. search needs)
     returns
     read-plan-requires
-    same-length-3
-    same-length-4
-    same-length-5
+    (λ c. search needs)
+    (λ c. search needs)
+    (λ c. search needs)
     returns-2)

@@ -6,12 +6,6 @@ use borrow.Author.Needs.{needs}
 use Rattle.search.proofs.steps.driving_step.Statement.{statement}
 use Rattle.search.proofs.steps.driving_step.Tie as tie
 
-from-requires : tie.Need-from-requires
-from-requires c κs = search needs
-
-drive-requires : tie.Need-drive-requires
-drive-requires c κs = search needs
-
 returns : tie.Need-returns
 returns c = not-driven _ _ _ _ (λ e. c .if1 .taken (c .before .before .from .ensures .value ∙ e))
 
@@ -35,8 +29,8 @@ pub driving-step-spec : {M : Type 1} → statement M
 driving-step-spec =
     tie.close
     (tie.spec
-    from-requires
-    drive-requires
+    (λ c κs. search needs)
+    (λ c κs. search needs)
     returns
     returns-2
     mul-result

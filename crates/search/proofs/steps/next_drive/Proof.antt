@@ -38,9 +38,6 @@ value-requires-2 c κs =
     let at = c .before .before .before .before .before .before .before .before .before .pre .0 in
     value-ready (at .known) (at .set) (rw (c .before .to .ensures .value) (at .known .walked .ready .sound .ends _ (exists (c .before .before))))
 
-makes-up-requires : tie.Need-makes-up-requires Inv-loop μ-loop
-makes-up-requires c κs = tt
-
 add-t15 : tie.Need-add-t15 Inv-loop μ-loop
 add-t15 c = omega (arith, exists (c .before .before .before .before .before), c .before .before .before .before .before .before .before .before .before .before .before .before .pre .0 .known .walked .ready .sound .links)
 
@@ -53,9 +50,6 @@ returns c =
 
 add-k : tie.Need-add-k Inv-loop μ-loop
 add-k c = omega (arith, exists (c .before .before .before .before .before), c .before .before .before .before .before .before .before .before .before .before .before .before .pre .0 .known .walked .ready .sound .links)
-
-loop-less : tie.Need-loop-less Inv-loop μ-loop
-loop-less c = omega arith
 
 loop-again : tie.Need-loop-again Inv-loop μ-loop
 loop-again c =
@@ -78,10 +72,10 @@ next-drive-spec =
     to-requires
     driving-step-requires
     value-requires-2
-    makes-up-requires
+    (λ c κs. tt)
     add-t15
     returns
     add-k
-    loop-less
+    (λ c. omega arith)
     loop-again
     returns-2)

@@ -46,9 +46,6 @@ sub-value c = omega (arith, of (c .before .before), c .before .before .before .l
 value-requires-2 : tie.Need-value-requires-2 Inv-loop μ-loop
 value-requires-2 c κs = value-ready (c .before .before .before .before .before .before .before .before .pre .known) (omega (arith, c .before .before .before .before .before .before .before .before .pre .set)) (c .before .before .before .before .before .before .before .before .pre .node)
 
-makes-up-requires : tie.Need-makes-up-requires Inv-loop μ-loop
-makes-up-requires c κs = tt
-
 cast-t17 : tie.Need-cast-t17 Inv-loop μ-loop
 cast-t17 c = omega (arith, there (c .before .before .before .before .before), c .before .before .before .before .before .before .before .before .before .before .before .pre .known .walked .ready .request .riders)
 
@@ -91,7 +88,7 @@ next-meeting-spec =
     meeting-step-requires
     sub-value
     value-requires-2
-    makes-up-requires
+    (λ c κs. tt)
     cast-t17
     sub-t18
     returns

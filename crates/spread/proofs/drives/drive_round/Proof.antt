@@ -29,15 +29,6 @@ relax-drive-requires c κs =
     let may = c .before .before .before .before .before .before .pre in
     (omega arith, record { lent = lent-after (may .lent) (c .before .before .loop .inv .2 .relaxing); light = may .light })
 
-add-changes : tie.Need-add-changes Inv-loop μ-loop
-add-changes c = search needs
-
-add-k : tie.Need-add-k Inv-loop μ-loop
-add-k c = search needs
-
-loop-less : tie.Need-loop-less Inv-loop μ-loop
-loop-less c = search needs
-
 loop-again : tie.Need-loop-again Inv-loop μ-loop
 loop-again c = (
   omega arith,
@@ -62,9 +53,9 @@ drive-round-spec =
     link-count-requires
     loop-holds
     relax-drive-requires
-    add-changes
-    add-k
-    loop-less
+    (λ c. search needs)
+    (λ c. search needs)
+    (λ c. search needs)
     loop-again
     same-length
     returns)

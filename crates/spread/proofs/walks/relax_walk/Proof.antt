@@ -4,29 +4,11 @@ use borrow.Author.Needs.{needs}
 use Rattle.spread.proofs.walks.relax_walk.Statement.{statement}
 use Rattle.spread.proofs.walks.relax_walk.Tie as tie
 
-walk-requires : tie.Need-walk-requires
-walk-requires c κs = search needs
-
-cast-if1 : tie.Need-cast-if1
-cast-if1 c = search needs
-
 returns : tie.Need-returns
 returns c = (omega arith, closed-link (c .before .walk .ensures .value) (c .if1 .taken))
 
-from-requires : tie.Need-from-requires
-from-requires c κs = search needs
-
-to-requires : tie.Need-to-requires
-to-requires c κs = search needs
-
-mul-near : tie.Need-mul-near
-mul-near c = search needs
-
 slice-read-near : tie.Need-slice-read-near
 slice-read-near c = omega (arith, c .before .before .before .before .before .before .before .pre .1 .sound .starts (c .before .before .before .before .before .before .before .args .k) (c .before .before .before .before .before .before .before .pre .0))
-
-mul-far : tie.Need-mul-far
-mul-far c = search needs
 
 slice-read-far : tie.Need-slice-read-far
 slice-read-far c = omega (arith, c .before .before .before .before .before .before .before .before .pre .1 .sound .ends (c .before .before .before .before .before .before .before .before .args .k) (c .before .before .before .before .before .before .before .before .pre .0))
@@ -37,9 +19,6 @@ returns-2 c = (
   no-help (c .before .before .before .before .before .before .walk .ensures .value) (c .before .before .before .before .from .ensures .value) (c .before .before .before .to .ensures .value) (omega arith),
 )
 
-sub-if3 : tie.Need-sub-if3
-sub-if3 c = search needs
-
 returns-3 : tie.Need-returns-3
 returns-3 c = (
   omega arith,
@@ -49,14 +28,8 @@ returns-3 c = (
 add-distances : tie.Need-add-distances
 add-distances c = omega (arith, c .before .before .slice-known3 .given (c .before .before .before .before .to .result))
 
-mul-distances : tie.Need-mul-distances
-mul-distances c = search needs
-
 slice-write-distances : tie.Need-slice-write-distances
 slice-write-distances c = omega (arith, c .before .before .before .before .before .before .before .before .before .before .pre .1 .sound .ends (c .before .before .before .before .before .before .before .before .before .before .args .k) (c .before .before .before .before .before .before .before .before .before .before .pre .0))
-
-same-length : tie.Need-same-length
-same-length c = search needs
 
 returns-4 : tie.Need-returns-4
 returns-4 c = (
@@ -69,20 +42,20 @@ pub relax-walk-spec : {M : Type 1} → statement M
 relax-walk-spec =
     tie.close
     (tie.spec
-    walk-requires
-    cast-if1
+    (λ c κs. search needs)
+    (λ c. search needs)
     returns
-    from-requires
-    to-requires
-    mul-near
+    (λ c κs. search needs)
+    (λ c κs. search needs)
+    (λ c. search needs)
     slice-read-near
-    mul-far
+    (λ c. search needs)
     slice-read-far
     returns-2
-    sub-if3
+    (λ c. search needs)
     returns-3
     add-distances
-    mul-distances
+    (λ c. search needs)
     slice-write-distances
-    same-length
+    (λ c. search needs)
     returns-4)

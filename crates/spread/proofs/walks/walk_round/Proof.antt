@@ -28,15 +28,6 @@ loop-holds c = (omega arith, omega arith, progress-none (λ i h. absurd (omega a
 relax-walk-requires : tie.Need-relax-walk-requires Inv-loop μ-loop
 relax-walk-requires c κs = (omega arith, lent-after (c .before .before .before .before .before .before .pre) (c .before .before .loop .inv .2 .relaxing))
 
-add-changes : tie.Need-add-changes Inv-loop μ-loop
-add-changes c = search needs
-
-add-k : tie.Need-add-k Inv-loop μ-loop
-add-k c = search needs
-
-loop-less : tie.Need-loop-less Inv-loop μ-loop
-loop-less c = search needs
-
 loop-again : tie.Need-loop-again Inv-loop μ-loop
 loop-again c = (
   omega arith,
@@ -61,9 +52,9 @@ walk-round-spec =
     link-count-requires
     loop-holds
     relax-walk-requires
-    add-changes
-    add-k
-    loop-less
+    (λ c. search needs)
+    (λ c. search needs)
+    (λ c. search needs)
     loop-again
     same-length
     returns)

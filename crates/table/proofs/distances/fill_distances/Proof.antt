@@ -13,9 +13,6 @@ Inv-loop network q distances₀ n nodes j₀ distances j = WalkedRows network q 
 abbrev μ-loop : tie.MeasureT-loop
 μ-loop network q distances₀ n nodes j₀ distances j = q .count - j
 
-node-count-requires : tie.Need-node-count-requires Inv-loop μ-loop
-node-count-requires c κs = omega arith
-
 loop-holds : tie.Need-loop-holds Inv-loop μ-loop
 loop-holds c = walked-none
 
@@ -37,12 +34,6 @@ array-read-walk-from c = omega (arith, c .before .before .before .before .before
 mul-walk-from-2 : tie.Need-mul-walk-from-2 Inv-loop μ-loop
 mul-walk-from-2 c = omega (arith, fits c)
 
-sub-walk-from : tie.Need-sub-walk-from Inv-loop μ-loop
-sub-walk-from c = omega arith
-
-part-walk-from-start : tie.Need-part-walk-from-start Inv-loop μ-loop
-part-walk-from-start c = omega arith
-
 part-walk-from-end : tie.Need-part-walk-from-end Inv-loop μ-loop
 part-walk-from-end c = fits c .within
 
@@ -51,9 +42,6 @@ walk-from-requires c κs = (c .before .before .before .before .before .before .b
 
 add-j : tie.Need-add-j Inv-loop μ-loop
 add-j c = omega (arith, c .before .before .before .before .before .before .before .before .before .before .before .pre .request .riders)
-
-loop-less : tie.Need-loop-less Inv-loop μ-loop
-loop-less c = omega arith
 
 loop-again : tie.Need-loop-again Inv-loop μ-loop
 loop-again c = rw (c .before .before .before .before .before .before .before .before .node-count .ensures .value) (walked-more (c .before .before .before .before .before .before .before .before .before .before .before .pre) (c .before .before .before .before .before .before .loop .inv) (c .before .before .before .before .if1 .taken) (rw (c .before .before .before .before .before .before .before .before .node-count .ensures .value) at (c .before .before .walk-from .ensures)))
@@ -70,19 +58,19 @@ fill-distances-spec =
     (tie.spec
     Inv-loop
     μ-loop
-    node-count-requires
+    (λ c κs. omega arith)
     loop-holds
     mul-a
     add-b
     mul-walk-from
     array-read-walk-from
     mul-walk-from-2
-    sub-walk-from
-    part-walk-from-start
+    (λ c. omega arith)
+    (λ c. omega arith)
     part-walk-from-end
     walk-from-requires
     add-j
-    loop-less
+    (λ c. omega arith)
     loop-again
     same-length
     returns)

@@ -5,9 +5,6 @@ use Rattle.table.proofs.RowLaws.{row-start}
 use Rattle.table.proofs.places.place.Statement.{statement}
 use Rattle.table.proofs.places.place.Tie as tie
 
-node-count-requires : tie.Need-node-count-requires
-node-count-requires c κs = search needs
-
 mul-result : tie.Need-mul-result
 mul-result c = omega (arith, row-start (c .node-count .result) (c .before .before .args .row) (omega arith) (omega arith))
 
@@ -18,4 +15,4 @@ returns : tie.Need-returns
 returns c = record { value = rw (c .node-count .ensures .value) refl; below = omega (arith, row-start (c .node-count .result) (c .before .before .args .row) (omega arith) (omega arith)) }
 
 pub place-spec : {M : Type 1} → statement M
-place-spec = tie.close (tie.spec node-count-requires mul-result add-result returns)
+place-spec = tie.close (tie.spec (λ c κs. search needs) mul-result add-result returns)

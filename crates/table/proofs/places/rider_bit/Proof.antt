@@ -6,11 +6,8 @@ use borrow.Author.Needs.{needs}
 use Rattle.table.proofs.places.rider_bit.Statement.{statement}
 use Rattle.table.proofs.places.rider_bit.Tie as tie
 
-shl-result : tie.Need-shl-result
-shl-result c = search needs
-
 returns : tie.Need-returns
 returns c = shl-exact 1 (c .args .j) 32 (omega arith) (omega arith) ∙ one-mul _
 
 pub rider-bit-spec : {M : Type 1} → statement M
-rider-bit-spec = tie.close (tie.spec shl-result returns)
+rider-bit-spec = tie.close (tie.spec (λ c. search needs) returns)

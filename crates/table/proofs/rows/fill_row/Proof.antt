@@ -7,12 +7,6 @@ use Rattle.table.proofs.RowLaws.{Lies}
 use Rattle.table.proofs.rows.fill_row.Statement.{statement}
 use Rattle.table.proofs.rows.fill_row.Tie as tie
 
-start-row-requires : tie.Need-start-row-requires
-start-row-requires c κs = search needs
-
-node-count-requires : tie.Need-node-count-requires
-node-count-requires c κs = search needs
-
 there : (c : tie.After-node-count) → Lies (c .before .before .before .before .before .before .before .before .args .riders * c .node-count .result) (c .node-count .result) (length (c .before .before .before .start-row .last .1 .1 .1 .1 .0))
 there c = rw (c .node-count .ensures .value) (row-there (c .before .before .before .before .before .before .before .before .pre) (c .before .before .before .start-row .ensures))
 
@@ -25,20 +19,11 @@ add-b c = omega (arith, there c)
 mul-spread-drives : tie.Need-mul-spread-drives
 mul-spread-drives c = omega (arith, there c)
 
-sub-spread-drives : tie.Need-sub-spread-drives
-sub-spread-drives c = search needs
-
-part-spread-drives-start : tie.Need-part-spread-drives-start
-part-spread-drives-start c = search needs
-
 part-spread-drives-end : tie.Need-part-spread-drives-end
 part-spread-drives-end c = there c .within
 
 spread-drives-requires : tie.Need-spread-drives-requires
 spread-drives-requires c κs = rw (c .before .node-count .ensures .value) (row-lent (c .before .before .before .before .before .before .before .before .before .pre) (c .before .before .before .before .start-row .ensures))
-
-same-length : tie.Need-same-length
-same-length c = search needs
 
 returns : tie.Need-returns
 returns c = rw (c .before .before .before .before .node-count .ensures .value) (row-filled (c .before .before .before .before .before .before .before .before .before .before .before .before .pre) (c .before .before .before .before .before .before .before .start-row .ensures) (rw (c .before .before .before .before .node-count .ensures .value) at (c .before .before .spread-drives .ensures)))
@@ -47,14 +32,14 @@ pub fill-row-spec : {M : Type 1} → statement M
 fill-row-spec =
     tie.close
     (tie.spec
-    start-row-requires
-    node-count-requires
+    (λ c κs. search needs)
+    (λ c κs. search needs)
     mul-a
     add-b
     mul-spread-drives
-    sub-spread-drives
-    part-spread-drives-start
+    (λ c. search needs)
+    (λ c. search needs)
     part-spread-drives-end
     spread-drives-requires
-    same-length
+    (λ c. search needs)
     returns)

@@ -24,12 +24,6 @@ loop-holds c = filled-none (c .before .before .before .before .before .pre .0)
 fill-row-requires : tie.Need-fill-row-requires Inv-loop μ-loop
 fill-row-requires c κs = next-room (c .before .before .before .before .before .before .before .before .pre .0) (c .before .before .loop .inv) (c .before .before .before .before .before .before .before .before .pre .1) (rw (c .before .before .before .rider-bit .ensures) at (c .before .loop-test .taken))
 
-add-riders : tie.Need-add-riders Inv-loop μ-loop
-add-riders c = omega arith
-
-loop-less : tie.Need-loop-less Inv-loop μ-loop
-loop-less c = omega arith
-
 loop-again : tie.Need-loop-again Inv-loop μ-loop
 loop-again c = filled-more (c .before .before .before .before .before .before .before .before .before .before .before .pre .0) (c .before .before .before .before .before .loop .inv) (c .before .before .fill-row .ensures)
 
@@ -51,8 +45,8 @@ fill-table-spec =
     rider-bit-requires
     loop-holds
     fill-row-requires
-    add-riders
-    loop-less
+    (λ c. omega arith)
+    (λ c. omega arith)
     loop-again
     same-length
     returns)

@@ -31,24 +31,15 @@ meeting-step-requires c κs = (rider (c .before) .below, c .before .before .befo
 sub-place : tie.Need-sub-place Inv-loop μ-loop
 sub-place c = omega (arith, rider (c .before .before), c .before .rider-bit .ensures)
 
-cast-place : tie.Need-cast-place Inv-loop μ-loop
-cast-place c = omega arith
-
 place-requires : tie.Need-place-requires Inv-loop μ-loop
 place-requires c κs =
     let known = c .before .before .before .before .before .before .before .pre in
     (known .2 .walked .ready .sound, place-there (known .2) (known .1) (c .before .before .before .before .before .before .before .args .riders - c .before .rider-bit .result) (omega arith) .0, known .1)
 
-mul-rest : tie.Need-mul-rest Inv-loop μ-loop
-mul-rest c = omega arith
-
 shared-slice-read-rest : tie.Need-shared-slice-read-rest Inv-loop μ-loop
 shared-slice-read-rest c =
     let known = c .before .before .before .before .before .before .before .before .before .pre in
     omega (arith, c .before .place .ensures .value, place-there (known .2) (known .1) (c .before .before .before .before .before .before .before .before .before .args .riders - c .before .before .before .rider-bit .result) (omega arith))
-
-smaller-requires : tie.Need-smaller-requires Inv-loop μ-loop
-smaller-requires c κs = tt
 
 sub-left : tie.Need-sub-left Inv-loop μ-loop
 sub-left c = omega (arith, rider (c .before .before .before .before .before), c .before .before .before .before .rider-bit .ensures)
@@ -77,11 +68,11 @@ least-meeting-spec =
     cast-meeting-step
     meeting-step-requires
     sub-place
-    cast-place
+    (λ c. omega arith)
     place-requires
-    mul-rest
+    (λ c. omega arith)
     shared-slice-read-rest
-    smaller-requires
+    (λ c κs. tt)
     sub-left
     loop-less
     loop-again

@@ -6,23 +6,11 @@ use Rattle.table.proofs.StartLaws.{cannot-meet, can-meet}
 use Rattle.table.proofs.starts.meeting_step.Statement.{statement}
 use Rattle.table.proofs.starts.meeting_step.Tie as tie
 
-place-requires : tie.Need-place-requires
-place-requires c κs = search needs
-
-mul-distance : tie.Need-mul-distance
-mul-distance c = omega arith
-
 shared-slice-read-distance : tie.Need-shared-slice-read-distance
 shared-slice-read-distance c = omega (arith, place-within (c .before .before .before .before .pre .0) (c .before .before .before .before .pre .1), c .before .before .before .before .pre .2 .places)
 
 returns : tie.Need-returns
 returns c = rw (← c .before .before .place .ensures .value) (cannot-meet _ _ (c .if1 .taken))
-
-mul-result : tie.Need-mul-result
-mul-result c = search needs
-
-array-read-result : tie.Need-array-read-result
-array-read-result c = search needs
 
 cast-result : tie.Need-cast-result
 cast-result c = omega (arith, c .before .before .shared-slice-known3 .given (c .before .before .before .place .result))
@@ -43,12 +31,12 @@ pub meeting-step-spec : {M : Type 1} → statement M
 meeting-step-spec =
     tie.close
     (tie.spec
-    place-requires
-    mul-distance
+    (λ c κs. search needs)
+    (λ c. omega arith)
     shared-slice-read-distance
     returns
-    mul-result
-    array-read-result
+    (λ c. search needs)
+    (λ c. search needs)
     cast-result
     mul-result-2
     mul-result-3

@@ -25,17 +25,8 @@ start-value-requires c κs = (omega (arith, c .before .before .before .node-coun
 place-requires : tie.Need-place-requires Inv-loop μ-loop
 place-requires c κs = (c .before .before .before .before .before .before .before .before .pre .walked .ready .sound, start-there (c .before .before .before .before .before .before .before .before .pre) (c .before .before .before .loop .inv) (omega (arith, c .before .before .before .before .node-count .ensures .value)) .0, omega (arith, c .before .before .before .before .node-count .ensures .value))
 
-mul-table : tie.Need-mul-table Inv-loop μ-loop
-mul-table c = omega arith
-
 slice-write-table : tie.Need-slice-write-table Inv-loop μ-loop
 slice-write-table c = omega (arith, c .place .ensures .value, start-there (c .before .before .before .before .before .before .before .before .before .pre) (c .before .before .before .before .loop .inv) (omega (arith, c .before .before .before .before .before .node-count .ensures .value)))
-
-add-v : tie.Need-add-v Inv-loop μ-loop
-add-v c = omega arith
-
-loop-less : tie.Need-loop-less Inv-loop μ-loop
-loop-less c = omega arith
 
 loop-again : tie.Need-loop-again Inv-loop μ-loop
 loop-again c = started-more (c .before .before .before .before .before .before .before .before .before .pre) (c .before .before .before .before .loop .inv) (c .place .ensures .value) (omega (arith, c .before .before .before .before .before .node-count .ensures .value)) (c .before .start-value .ensures)
@@ -58,10 +49,10 @@ start-row-spec =
     loop-holds
     start-value-requires
     place-requires
-    mul-table
+    (λ c. omega arith)
     slice-write-table
-    add-v
-    loop-less
+    (λ c. omega arith)
+    (λ c. omega arith)
     loop-again
     same-length
     returns)

@@ -8,9 +8,6 @@ use Rattle.table.proofs.starts.start_value.Tie as tie
 least-meeting-requires : tie.Need-least-meeting-requires
 least-meeting-requires c κs = search (needs, somebody)
 
-returns : tie.Need-returns
-returns c = search needs
-
 returns-2 : tie.Need-returns-2
 returns-2 c = arrived (c .before .before .before .before .before .before .pre .1 .row) (c .before .before .if1 .left) (λ e. refl) (λ g. absurd (g (c .if2 .taken)))
 
@@ -18,4 +15,4 @@ returns-3 : tie.Need-returns-3
 returns-3 c = arrived (c .before .before .before .before .before .before .pre .1 .row) (c .before .before .if1 .left) (λ e. absurd (c .if2 .left e)) (λ g. refl)
 
 pub start-value-spec : {M : Type 1} → statement M
-start-value-spec = tie.close (tie.spec least-meeting-requires returns returns-2 returns-3)
+start-value-spec = tie.close (tie.spec least-meeting-requires (λ c. search needs) returns-2 returns-3)

@@ -16,26 +16,8 @@ abbrev μ-loop : tie.MeasureT-loop
 loop-holds : tie.Need-loop-holds Inv-loop μ-loop
 loop-holds c = (omega arith, decoded-none _ _)
 
-mul-two : tie.Need-mul-two Inv-loop μ-loop
-mul-two c = omega arith
-
-two-requires : tie.Need-two-requires Inv-loop μ-loop
-two-requires c κs = omega arith
-
-cast-links : tie.Need-cast-links Inv-loop μ-loop
-cast-links c = omega arith
-
-mul-links : tie.Need-mul-links Inv-loop μ-loop
-mul-links c = omega arith
-
 slice-write-links : tie.Need-slice-write-links Inv-loop μ-loop
 slice-write-links c = omega (arith, c .before .before .loop .inv .1 .size)
-
-add-i : tie.Need-add-i Inv-loop μ-loop
-add-i c = omega arith
-
-loop-less : tie.Need-loop-less Inv-loop μ-loop
-loop-less c = omega arith
 
 loop-again : tie.Need-loop-again Inv-loop μ-loop
 loop-again c = (omega arith, decoded-more _ (c .before .before .loop .inv .1) (omega arith) (c .two .ensures .value))
@@ -55,13 +37,13 @@ decode-spec =
     Inv-loop
     μ-loop
     loop-holds
-    mul-two
-    two-requires
-    cast-links
-    mul-links
+    (λ c. omega arith)
+    (λ c κs. omega arith)
+    (λ c. omega arith)
+    (λ c. omega arith)
     slice-write-links
-    add-i
-    loop-less
+    (λ c. omega arith)
+    (λ c. omega arith)
     loop-again
     same-length
     returns)

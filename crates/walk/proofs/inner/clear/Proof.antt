@@ -20,17 +20,8 @@ abbrev μ-loop : tie.MeasureT-loop
 loop-holds : tie.Need-loop-holds Inv-loop μ-loop
 loop-holds c = (omega arith, fill-none _ noDistance)
 
-mul-distances : tie.Need-mul-distances Inv-loop μ-loop
-mul-distances c = search needs
-
 slice-write-distances : tie.Need-slice-write-distances Inv-loop μ-loop
 slice-write-distances c = omega (arith, ap length (c .before .loop .inv .1) ∙ cleared-size (c .before .loop .v) _ (omega arith))
-
-add-v : tie.Need-add-v Inv-loop μ-loop
-add-v c = search needs
-
-loop-less : tie.Need-loop-less Inv-loop μ-loop
-loop-less c = search needs
 
 loop-again : tie.Need-loop-again Inv-loop μ-loop
 loop-again c = (omega arith, rw (c .before .loop .inv .1) (fill-more (c .before .loop .v) noDistance _ (omega arith)))
@@ -50,10 +41,10 @@ clear-spec =
     Inv-loop
     μ-loop
     loop-holds
-    mul-distances
+    (λ c. search needs)
     slice-write-distances
-    add-v
-    loop-less
+    (λ c. search needs)
+    (λ c. search needs)
     loop-again
     same-length
     returns)

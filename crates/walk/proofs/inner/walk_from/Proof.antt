@@ -7,18 +7,6 @@ use borrow.Author.Needs.{needs}
 use Rattle.walk.proofs.inner.walk_from.Statement.{statement}
 use Rattle.walk.proofs.inner.walk_from.Tie as tie
 
-node-count-requires : tie.Need-node-count-requires
-node-count-requires c κs = search needs
-
-clear-requires : tie.Need-clear-requires
-clear-requires c κs = search needs
-
-mul-distances : tie.Need-mul-distances
-mul-distances c = search needs
-
-slice-write-distances : tie.Need-slice-write-distances
-slice-write-distances c = search needs
-
 spread-walks-requires : tie.Need-spread-walks-requires
 spread-walks-requires c κs =
     let lent = c .before .before .before .before .before .before .before .before .pre .1 in
@@ -41,10 +29,10 @@ pub walk-from-spec : {M : Type 1} → statement M
 walk-from-spec =
     tie.close
     (tie.spec
-    node-count-requires
-    clear-requires
-    mul-distances
-    slice-write-distances
+    (λ c κs. search needs)
+    (λ c κs. search needs)
+    (λ c. search needs)
+    (λ c. search needs)
     spread-walks-requires
     same-length
     returns)
