@@ -7,7 +7,7 @@ use mathlib.Core.List.{List, [], _∷_, map}
 use native.Mathlib.Omega.{arith}
 use lib.Pow.{pow-pos}
 use Rattle.rules.specs.Network.{nodeCount, SoundNetwork}
-use Rattle.rules.specs.Request.{SoundValue, requestVerdict}
+use Rattle.rules.specs.Request.{SoundValue, requestVerdict, riderCountOf}
 use Rattle.rules.specs.Routes.{Price}
 use Rattle.rules.specs.Plans.{allRiders}
 use Rattle.rules.specs.Rooms.{HoldsFinish}
@@ -31,14 +31,14 @@ accepts-true Accepted e = refl
 accepts-true (Refused r) e = absurd (false≢true e)
 
 module _ {network : List ℕ} {q : Request} {D T : ℕ → ℕ → ℕ} (sound : SoundNetwork network) (value : SoundValue (nodeCount network) q) (walking : Walking network q D) (tested : Says (tableTest network q D T)) where
-  values-hold : (R v : ℕ) → R < 2 ^ q .count → v < nodeCount network → HoldsFinish network q R v (T R v)
+  values-hold : (R v : ℕ) → R < 2 ^ riderCountOf q → v < nodeCount network → HoldsFinish network q R v (T R v)
   values-hold R v small h = least-holds sound value small h (tabled sound value walking tested R v small h)
 
   result-right : (result : Result) → Says (resultTest network q D T result) → Right network q result
   result-right (plan cost steps) ((finite, costs), read) =
       rw (← costs) (reads sound value walking tested steps (reading-start sound value (tabled sound value walking tested) finite) read)
   result-right none e =
-      let small : allRiders q < 2 ^ q .count = omega (arith, pow-pos (q .count)) in
+      let small : allRiders q < 2 ^ riderCountOf q = omega (arith, pow-pos (riderCountOf q)) in
       elim (values-hold (allRiders q) (q .source) small (value .starts)) [
         | inl f ↦ absurd (omega (arith, e, unpacks sound value small (value .starts) (f .best) (f .packs) .below))
         | inr f ↦ f .0

@@ -7,7 +7,7 @@ use lib.ListN.{length, getD}
 use Rattle.rules.specs.Checks.{firstOf, each as checks}
 use Rattle.rules.specs.Numbers.{number}
 use Rattle.rules.specs.Network.{openingChecks, sizeChecks, networkChecks, nodeCount, linkCount, from, to, drive, walk, closed}
-use Rattle.rules.specs.Request.{countChecks, nodeChecks, weightChecks, requestChecks, riderNodeOf, riderWeightOf, requestVerdict, sevenPlaces, requestValue}
+use Rattle.rules.specs.Request.{countChecks, nodeChecks, weightChecks, requestChecks, riderNodeOf, riderWeightOf, requestVerdict, sevenPlaces, requestValue, riderCountOf, busWeightOf}
 use Rattle.rules.specs.Walks.{noDistance}
 use Rattle.rules.specs.Routes.{nodeAt, sum}
 use Rattle.rules.specs.Plans.{without, allRiders}
@@ -66,7 +66,7 @@ module _ (network : List ℕ) (q : Request) (D : ℕ → ℕ → ℕ) where
         allowed = drivable network v k;
         set = R;
         node = to network k;
-        cost = q .weight * drive network k;
+        cost = busWeightOf q * drive network k;
       }
 
   abbrev pub move : ℕ → ℕ → ℕ → Move
@@ -101,7 +101,7 @@ module _ (network : List ℕ) (q : Request) (D : ℕ → ℕ → ℕ) where
         (both (each stepNumbers (noLower R v)) (given (below (T R v) noFinish) (either (arrived R v) (some stepNumbers (tight R v)))))
 
     abbrev pub tableTest : Test
-    tableTest = each (2 ^ q .count) (λ R. each (nodeCount network) (placeTest R))
+    tableTest = each (2 ^ riderCountOf q) (λ R. each (nodeCount network) (placeTest R))
 
     -- the steps from v on are the lowest tight ones, and they end at the value 0
     unfoldable pub readsTest : ℕ → ℕ → List ℕ → Test
@@ -134,7 +134,7 @@ module _ (network : List ℕ) (q : Request) (D : ℕ → ℕ → ℕ) (route : L
   abbrev pub priceTest : List ℕ → ℕ → Test
   priceTest meetings price =
       both (routeTest network (q .target) (q .source) route)
-      (both (each (q .count) (λ j. meetingTest j (getD meetings j 0))) (same price (q .weight * driven network route + sum (q .count) (λ j. riderWeightOf q j * walkTo j (getD meetings j 0)))))
+      (both (each (riderCountOf q) (λ j. meetingTest j (getD meetings j 0))) (same price (busWeightOf q * driven network route + sum (riderCountOf q) (λ j. riderWeightOf q j * walkTo j (getD meetings j 0)))))
 
 -- ---- a case
 abbrev pub accepts : Verdict → Bool
@@ -150,12 +150,12 @@ module _ (network : List ℕ) (q : Request) (D T : ℕ → ℕ → ℕ) where
 
   abbrev pub rulesTest : Result → Test
   rulesTest result =
-      both (each (q .count) (λ j. distancesTest network (riderNodeOf q j) (D j)))
+      both (each (riderCountOf q) (λ j. distancesTest network (riderNodeOf q j) (D j)))
       (both (tableTest network q D T) (resultTest result))
 
 abbrev pub caseTest : Case → Test
 caseTest c =
-    both (both (same (length (c .distances)) (distancePlaces (nodeCount (c .network)) (asked c .count))) (same (length (c .table)) (tablePlaces (nodeCount (c .network)) (asked c .count))))
+    both (both (same (length (c .distances)) (distancePlaces (nodeCount (c .network)) (riderCountOf (asked c)))) (same (length (c .table)) (tablePlaces (nodeCount (c .network)) (riderCountOf (asked c)))))
     (rulesTest (c .network) (asked c) (rowDistance c) (rowValue c) (c .result))
 
 unfoldable pub certified : Case → Bool

@@ -7,7 +7,7 @@ use native.Mathlib.Decide.{decLt}
 use native.Mathlib.Omega.{arith}
 use borrow.Author.Tests.{lt-ltb, le-ltb}
 use Rattle.rules.specs.Network.{nodeCount, SoundNetwork}
-use Rattle.rules.specs.Request.{riderNodeOf, SoundValue}
+use Rattle.rules.specs.Request.{riderNodeOf, SoundValue, riderCountOf}
 use Rattle.rules.specs.Walks.{HoldsDistance}
 use Rattle.rules.specs.Plans.{Has}
 use Rattle.rules.specs.declared.Request.{Request}
@@ -20,7 +20,7 @@ use Rattle.cases.proofs.Certificate.{Move, move, meeting, driving}
 
 -- every place of D holds a rider's walking distance
 abbrev pub Walking : List ℕ → Request → (ℕ → ℕ → ℕ) → Type 0
-Walking network q D = (j v : ℕ) → j < q .count → v < nodeCount network → HoldsDistance network (riderNodeOf q j) v (D j v)
+Walking network q D = (j v : ℕ) → j < riderCountOf q → v < nodeCount network → HoldsDistance network (riderNodeOf q j) v (D j v)
 
 -- A move is allowed and leads to S and x at the cost c.
 pub record Goes (m : Move) (S x c : ℕ) : Type 0 where
@@ -29,10 +29,10 @@ pub record Goes (m : Move) (S x c : ℕ) : Type 0 where
   pub node : x ≡ m .node
   pub cost : c ≡ m .cost
 
-module _ {network : List ℕ} {q : Request} {D : ℕ → ℕ → ℕ} (sound : SoundNetwork network) (value : SoundValue (nodeCount network) q) (walking : Walking network q D) {R v : ℕ} (small : R < 2 ^ q .count) (h : v < nodeCount network) where
+module _ {network : List ℕ} {q : Request} {D : ℕ → ℕ → ℕ} (sound : SoundNetwork network) (value : SoundValue (nodeCount network) q) (walking : Walking network q D) {R v : ℕ} (small : R < 2 ^ riderCountOf q) (h : v < nodeCount network) where
   -- a rider of R is below 8
-  rider-small : {j : ℕ} → Has R j → j < q .count
-  rider-small {j} has = has-below R j (q .count) small has
+  rider-small : {j : ℕ} → Has R j → j < riderCountOf q
+  rider-small {j} has = has-below R j (riderCountOf q) small has
 
   pub step-move : {step S x c : ℕ} → Step network q R v step S x c → Goes (move network q D R v step) S x c
   step-move {step} {S} {x} {c} (meets d has walks s n e) =

@@ -6,7 +6,7 @@ use mathlib.Core.List.{List, [], _∷_}
 use lib.ListN.{getD}
 use native.Mathlib.Omega.{arith}
 use Rattle.rules.specs.Network.{nodeCount, to, drive, SoundNetwork}
-use Rattle.rules.specs.Request.{riderNodeOf, SoundValue}
+use Rattle.rules.specs.Request.{riderNodeOf, SoundValue, riderCountOf}
 use Rattle.rules.specs.Walks.{Way, arrived, along, HoldsDistance}
 use Rattle.rules.specs.Routes.{Drivable, Route, RiderWalks, nodeAt, Meeting, Price}
 use Rattle.rules.specs.declared.Request.{Request}
@@ -30,7 +30,7 @@ node-below sound h (along {k = k} x w rest leads way e) (suc position) =
     rw (leads .ends) (node-below sound (omega (arith, sound .ends k (leads .exists))) way position)
 
 module _ {network : List ℕ} {q : Request} {D : ℕ → ℕ → ℕ} (sound : SoundNetwork network) (value : SoundValue (nodeCount network) q) (walking : Walking network q D) (route : List ℕ) where
-  meets : (j : ℕ) {position driving : ℕ} → j < q .count → Route network q route driving → Says (meetingTest network q D route j position) → Meeting network q route j position (walkTo network q D route j position)
+  meets : (j : ℕ) {position driving : ℕ} → j < riderCountOf q → Route network q route driving → Says (meetingTest network q D route j position) → Meeting network q route j position (walkTo network q D route j position)
   meets j {position} h drives ((within, far), (least, earliest)) =
       record {
         within = within;

@@ -13,7 +13,7 @@ use lib.Dec.{eqb}
 use borrow.Author.Tests.{le-ltb, eq-eqb}
 use Rattle.rules.specs.Checks.{firstOf}
 use Rattle.rules.specs.Network.{nodeCount}
-use Rattle.rules.specs.Request.{requestValue, requestVerdict, recordChecks}
+use Rattle.rules.specs.Request.{requestValue, requestVerdict, recordChecks, riderCountOf}
 use Rattle.rules.specs.Plans.{allRiders}
 use Rattle.rules.specs.Rooms.{Kept, Distances, Table}
 use Rattle.rules.specs.Answers.{Outcome, gives, Lent, searchChecks, Searched, refused, hopeless, planned}
@@ -127,7 +127,7 @@ count-told network request {cost = cost} {count} e (planned steps c v d t right 
     let (sound, so) = records-sound network request (accepted-front (recordChecks network request) _ v) in
     let value = value-sound (nodeCount network) request so in
     let q = requestValue request in
-    let small : allRiders q < 2 ^ q .count = omega (arith, pow-pos (q .count)) in
+    let small : allRiders q < 2 ^ riderCountOf q = omega (arith, pow-pos (riderCountOf q)) in
     let packs = holds-finish-unique (t .holds (allRiders q) (q .source) small (value .starts)) (inl (record { steps = steps; cost = c; best = right .best; packs = refl })) in
     let u = unpacks sound value small (value .starts) (right .best) packs in
     let costs : c ≡ cost = cc in

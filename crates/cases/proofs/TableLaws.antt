@@ -7,7 +7,7 @@ use lib.ListN.{length}
 use native.Mathlib.Decide.{decLt}
 use native.Mathlib.Omega.{arith}
 use Rattle.rules.specs.Network.{nodeCount, linkCount, SoundNetwork}
-use Rattle.rules.specs.Request.{SoundValue}
+use Rattle.rules.specs.Request.{SoundValue, riderCountOf}
 use Rattle.rules.specs.Plans.{Finish, arrive, meet, drive, RightPlan}
 use Rattle.rules.specs.Rooms.{noFinish}
 use Rattle.rules.specs.declared.Request.{Request}
@@ -20,25 +20,25 @@ use Rattle.cases.proofs.Certificate.{move, onward, tableTest, readsTest
 use Rattle.cases.proofs.MoveLaws.{Walking, step-move, move-step}
 
 -- The numbers of a network's steps.
-step-number : {network : List ℕ} {q : Request} {R v step S x c : ℕ} → SoundValue (nodeCount network) q → R < 2 ^ q .count → Step network q R v step S x c → step < 8 + linkCount network
-step-number {q = q} {R} {step = step} value small (meets _ has _ _ _ _) = omega (arith, value .riders, has-below R step (q .count) small has)
+step-number : {network : List ℕ} {q : Request} {R v step S x c : ℕ} → SoundValue (nodeCount network) q → R < 2 ^ riderCountOf q → Step network q R v step S x c → step < 8 + linkCount network
+step-number {q = q} {R} {step = step} value small (meets _ has _ _ _ _) = omega (arith, value .riders, has-below R step (riderCountOf q) small has)
 step-number value small (drives k _ e link _ _) = omega (arith, link .exists)
 
 module _ {network : List ℕ} {q : Request} {D T : ℕ → ℕ → ℕ} (sound : SoundNetwork network) (value : SoundValue (nodeCount network) q) (walking : Walking network q D) (tested : Says (tableTest network q D T)) where
   -- No step undercuts a value.
-  relaxed : {R v step S x c : ℕ} → R < 2 ^ q .count → v < nodeCount network → Step network q R v step S x c → T R v ≤ packedStep c + T S x
+  relaxed : {R v step S x c : ℕ} → R < 2 ^ riderCountOf q → v < nodeCount network → Step network q R v step S x c → T R v ≤ packedStep c + T S x
   relaxed {R} {v} {step} small h s =
       let goes = step-move sound value walking small h s in
       rw (goes .set, goes .node, goes .cost) (tested R small v h .1 .0 step (step-number value small s) (goes .allowed))
 
   -- By induction on the finish.
-  lowest : {R v cost : ℕ} {steps : List ℕ} → R < 2 ^ q .count → v < nodeCount network → Finish network q R v steps cost → T R v ≤ 4096 * cost + length steps
+  lowest : {R v cost : ℕ} {steps : List ℕ} → R < 2 ^ riderCountOf q → v < nodeCount network → Finish network q R v steps cost → T R v ≤ 4096 * cost + length steps
   lowest {R} {v} small h (arrive none here free) = omega (arith, tested R small v h .0 .1 (none, here))
   lowest small h (meet d rest has walks f e) = omega (arith, relaxed small h (meets d has walks refl refl refl), lowest (omega arith) h f)
   lowest small h (drive k x w rest s leads f e) = omega (arith, relaxed small h (drives k w s leads refl refl), lowest small (omega (arith, sound .ends k (leads .exists))) f)
 
   -- Every step takes at least 1, so the value falls until all is done.
-  finished : (fuel R v : ℕ) → R < 2 ^ q .count → v < nodeCount network → T R v < fuel → T R v < noFinish → Packed network q R v (T R v)
+  finished : (fuel R v : ℕ) → R < 2 ^ riderCountOf q → v < nodeCount network → T R v < fuel → T R v < noFinish → Packed network q R v (T R v)
   finished zero R v small h less far = absurd (omega arith)
   finished (suc fuel) R v small h less far = elim (tested R small v h .1 .1 far) [
     | inl here ↦ record { steps = []; cost = 0; finishes = arrive (here .0) (here .1) refl; packs = tested R small v h .0 .1 here }

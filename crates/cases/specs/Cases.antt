@@ -4,7 +4,7 @@ use mathlib.Core.Path.{_≡_}
 use mathlib.Core.List.{List, [], _∷_}
 use lib.ListN.{length, getD}
 use Rattle.rules.specs.Network.{nodeCount}
-use Rattle.rules.specs.Request.{riderNodeOf, requestValue, requestVerdict}
+use Rattle.rules.specs.Request.{riderNodeOf, requestValue, requestVerdict, riderCountOf}
 use Rattle.rules.specs.Walks.{HoldsDistance}
 use Rattle.rules.specs.Plans.{RightPlan, NoPlan}
 use Rattle.rules.specs.Rooms.{HoldsFinish, distancePlaces, tablePlaces}
@@ -46,10 +46,10 @@ Right network q none = NoPlan network q
 -- The claim of a case: its records are sound, its result is right, and so is every place of its distances and its table.
 pub record Holds (c : Case) : Type 0 where
   pub accepted : requestVerdict (c .network) (c .request) ≡ Accepted
-  pub distanceSize : length (c .distances) ≡ distancePlaces (nodeCount (c .network)) (asked c .count)
-  pub tableSize : length (c .table) ≡ tablePlaces (nodeCount (c .network)) (asked c .count)
-  pub distances : (j v : ℕ) → j < asked c .count → v < nodeCount (c .network) → HoldsDistance (c .network) (riderNodeOf (asked c) j) v (rowDistance c j v)
-  pub table : (R v : ℕ) → R < 2 ^ asked c .count → v < nodeCount (c .network) → HoldsFinish (c .network) (asked c) R v (rowValue c R v)
+  pub distanceSize : length (c .distances) ≡ distancePlaces (nodeCount (c .network)) (riderCountOf (asked c))
+  pub tableSize : length (c .table) ≡ tablePlaces (nodeCount (c .network)) (riderCountOf (asked c))
+  pub distances : (j v : ℕ) → j < riderCountOf (asked c) → v < nodeCount (c .network) → HoldsDistance (c .network) (riderNodeOf (asked c) j) v (rowDistance c j v)
+  pub table : (R v : ℕ) → R < 2 ^ riderCountOf (asked c) → v < nodeCount (c .network) → HoldsFinish (c .network) (asked c) R v (rowValue c R v)
   pub result : Right (c .network) (asked c) (c .result)
 
 -- a claim of the case at place i of a table, if there is one

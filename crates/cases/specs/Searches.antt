@@ -5,7 +5,7 @@ use mathlib.Core.Logic.{_≢_}
 use mathlib.Core.List.{List, [], _∷_, _++_}
 use lib.ListN.{length, getD, drop, replicate}
 use Rattle.rules.specs.Network.{nodeCount}
-use Rattle.rules.specs.Request.{requestValue}
+use Rattle.rules.specs.Request.{requestValue, riderCountOf}
 use Rattle.rules.specs.Routes.{nodeAt}
 use Rattle.rules.specs.Plans.{allRiders}
 use Rattle.rules.specs.Rooms.{Written, distancePlaces, tablePlaces, stepPlaces}
@@ -22,16 +22,16 @@ stepsOf none = []
 
 -- the places that a case needs
 abbrev pub distanceNeed : Case → ℕ
-distanceNeed c = distancePlaces (nodeCount (c .network)) (asked c .count)
+distanceNeed c = distancePlaces (nodeCount (c .network)) (riderCountOf (asked c))
 
 abbrev pub tableNeed : Case → ℕ
-tableNeed c = tablePlaces (nodeCount (c .network)) (asked c .count)
+tableNeed c = tablePlaces (nodeCount (c .network)) (riderCountOf (asked c))
 
 abbrev pub stepNeed : Case → ℕ
-stepNeed c = stepPlaces (nodeCount (c .network)) (asked c .count)
+stepNeed c = stepPlaces (nodeCount (c .network)) (riderCountOf (asked c))
 
 abbrev pub EnoughFor : Case → Lent → Type 0
-EnoughFor c before = Enough (nodeCount (c .network)) (asked c .count) before
+EnoughFor c before = Enough (nodeCount (c .network)) (riderCountOf (asked c)) before
 
 -- rooms of exactly so many places, all zero
 abbrev pub zeros : Case → Lent

@@ -4,7 +4,7 @@ use native.Mathlib.Omega.{arith}
 use mathlib.Core.Path.{_≡_, refl, sym, _∙_, ap}
 use mathlib.Core.List.{List}
 use Rattle.rules.specs.Network.{networkOf}
-use Rattle.rules.specs.Request.{requestOf}
+use Rattle.rules.specs.Request.{requestOf, riderCountOf}
 use Rattle.rules.specs.Answers.{verdictOutcome, pricedOutcome, plannedOutcome, Lent}
 use Rattle.rules.specs.declared.Refusal.{Refusal}
 use Rattle.rules.specs.declared.Verdict.{Verdict}
@@ -47,7 +47,7 @@ network-value s so told =
     let small = network-sizes s refl told in
     (omega (arith, same, small), omega (arith, same, small), omega (arith, same, small))
 
-pub request-value : (network s : List ℕ) {number : ℕ} → number ≡ requestNumber (requestOf network s) → requestOf network s .verdict ≡ Accepted → (number ≡ requestOf network s .request .count) × (number < 2 ^ 63)
+pub request-value : (network s : List ℕ) {number : ℕ} → number ≡ requestNumber (requestOf network s) → requestOf network s .verdict ≡ Accepted → (number ≡ riderCountOf (requestOf network s .request)) × (number < 2 ^ 63)
 request-value network s so told =
     let same = so ∙ sym (accepted-tells _ told) in
     (same, omega (arith, same, few-riders network s))

@@ -12,6 +12,7 @@ use Rattle.rules.specs.declared.Priced.{Priced}
 use Rattle.rules.specs.declared.Priced.the-variants.{Price as Costs, Refused as NotPriced}
 use Rattle.rules.specs.declared.Planned.{Planned}
 use Rattle.rules.specs.declared.Planned.the-variants.{Plan as Found, Refused as NotPlanned}
+use Rattle.rules.specs.Request.{riderCountOf}
 
 abbrev pub refusalNumber : Refusal → ℕ
 refusalNumber r = 2 ^ 63 + 65536 * r .place + r .number
@@ -27,7 +28,7 @@ networkNumber read = verdictNumber (read .verdict) (65536 * read .n + read .m)
 
 -- the number of riders
 abbrev pub requestNumber : RequestRead → ℕ
-requestNumber read = verdictNumber (read .verdict) (read .request .count)
+requestNumber read = verdictNumber (read .verdict) (riderCountOf (read .request))
 
 abbrev pub pricedNumber : Priced → ℕ
 pricedNumber (Costs price) = price

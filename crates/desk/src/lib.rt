@@ -38,7 +38,7 @@ pub extern "C" fn tivelgor_request(network: &[u8], request: &[u8]) -> u64
     let verdict = read.verdict;
     let Verdict::Refused(r) = verdict else {
         let q = read.request;
-        return q.count as u64;
+        return q.rider_count as u64;
     };
     refusal_number(r)
 }

@@ -10,7 +10,7 @@ use lib.Count.{ones, ones-le, ones-ones}
 use lib.ListN.{length}
 use lib.Pow.{pow-pos}
 use Rattle.rules.specs.Network.{SoundNetwork, nodeCount}
-use Rattle.rules.specs.Request.{SoundValue}
+use Rattle.rules.specs.Request.{SoundValue, riderCountOf}
 use Rattle.rules.specs.Walks.{WalkingDistance}
 use Rattle.rules.specs.Plans.{Finish, arrive, meet, drive, Best, RightPlan}
 use Rattle.rules.specs.Rooms.{HoldsFinish, noFinish, stepPlaces}
@@ -34,19 +34,19 @@ module _ {network : List ℕ} (sound : SoundNetwork network) where
 
   module _ {q : Request} (value : SoundValue (nodeCount network) q) where
     -- A finish meets each rider of R once, and drives with its other steps.
-    costs : {R v cost : ℕ} {steps : List ℕ} → R < 2 ^ q .count → v < nodeCount network → Finish network q R v steps cost → cost + ones R * (100 * 65534) ≤ length steps * (100 * 65534) + ones R * (100 * (511 * 65534))
+    costs : {R v cost : ℕ} {steps : List ℕ} → R < 2 ^ riderCountOf q → v < nodeCount network → Finish network q R v steps cost → cost + ones R * (100 * 65534) ≤ length steps * (100 * 65534) + ones R * (100 * (511 * 65534))
     costs small h (arrive none here free) = omega arith
     costs {R} small h (meet {j = j} d rest has walks f e) =
-        let weight = value .weights j (has-below R j (q .count) small has) .1 in
+        let weight = value .weights j (has-below R j (riderCountOf q) small has) .1 in
         omega (arith, mul-le-mul weight (walking-bounded h walks), ones-without R j has, costs (omega (arith, without-less R j has)) h f)
     costs small h (drive k x w rest s leads f e) =
         let cheap : w ≤ 65534 = omega arith in
         omega (arith, mul-le-mul (value .bus .1) cheap, costs small (omega (arith, sound .ends k (leads .exists))) f)
 
-    module _ {R v : ℕ} (small : R < 2 ^ q .count) (h : v < nodeCount network) where
+    module _ {R v : ℕ} (small : R < 2 ^ riderCountOf q) (h : v < nodeCount network) where
       bound : {steps : List ℕ} {cost : ℕ} → Finish network q R v steps cost → length steps ≤ stepPlaces (nodeCount network) (ones R) → Bounded (nodeCount network) (ones R) steps cost
       bound f short =
-          let riders : ones R + 1 ≤ 8 = omega (arith, ones-le (q .count) R small, value .riders) in
+          let riders : ones R + 1 ≤ 8 = omega (arith, ones-le (riderCountOf q) R small, value .riders) in
           let nodes : nodeCount network - 1 ≤ 511 = omega (arith, sound .nodes) in
           record {
             short = short;
@@ -109,5 +109,5 @@ module _ {network : List ℕ} (sound : SoundNetwork network) where
       holds-least (inr f) = rw (f .1) (least-none (λ x p. f .0 _ _ (p .finishes)))
 
     -- "No right plan has more than l + (l+1)(n-1) steps, at most 4,095. No right plan costs more than 50,231,811,000".
-    pub right-plan-bounded : {steps : List ℕ} {cost : ℕ} → RightPlan network q steps cost → Bounded (nodeCount network) (q .count) steps cost
-    right-plan-bounded right = rw ones-ones at (best-bounded (omega (arith, pow-pos (q .count))) (value .starts) (right .best))
+    pub right-plan-bounded : {steps : List ℕ} {cost : ℕ} → RightPlan network q steps cost → Bounded (nodeCount network) (riderCountOf q) steps cost
+    right-plan-bounded right = rw ones-ones at (best-bounded (omega (arith, pow-pos (riderCountOf q))) (value .starts) (right .best))

@@ -7,6 +7,7 @@ use native.Mathlib.Omega.{arith}
 use lib.ListN.{length}
 use Rattle.rules.specs.Plans.{Finish, arrive, meet, drive, driveStep}
 use Rattle.rules.specs.declared.Request.{Request}
+use Rattle.rules.specs.Request.{busWeightOf}
 use Rattle.least.specs.Trips.{Trip, done, step}
 use Rattle.finish.specs.Packed.{packedStep, Packed, DriveArc, Ends}
 
@@ -14,14 +15,14 @@ module _ {network : List ℕ} {q : Request} where
   pub packed : {R v cost : ℕ} {steps : List ℕ} → Finish network q R v steps cost → Packed network q R v (4096 * cost + length steps)
   packed {cost = cost} {steps = steps} f = record { steps = steps; cost = cost; finishes = f; packs = refl }
 
-  finish-trip : {R v cost x : ℕ} {steps : List ℕ} → Finish network q R v steps cost → x ≡ 4096 * cost + length steps → Trip (DriveArc network (q .weight)) (Ends network q R) v x
+  finish-trip : {R v cost x : ℕ} {steps : List ℕ} → Finish network q R v steps cost → x ≡ 4096 * cost + length steps → Trip (DriveArc network (busWeightOf q)) (Ends network q R) v x
   finish-trip {x = x} (arrive none here free) packs = done {sum = x} (inl (none, here, omega arith))
   finish-trip {x = x} (meet {j = j} d rest has walks f e) packs =
       done {sum = x} (inr (j, record { distance = d; rest = _; has = has; walks = walks; finishes = packed f; packs = omega arith }))
   finish-trip {x = x} (drive k y w rest s leads f e) packs =
-      step {sum = x} y (packedStep (q .weight * w)) _ (k, record { cost = w; leads = leads; packs = refl }) (finish-trip f refl) (omega arith)
+      step {sum = x} y (packedStep (busWeightOf q * w)) _ (k, record { cost = w; leads = leads; packs = refl }) (finish-trip f refl) (omega arith)
 
-  trip-finish : {R v x : ℕ} → Trip (DriveArc network (q .weight)) (Ends network q R) v x → Packed network q R v x
+  trip-finish : {R v x : ℕ} → Trip (DriveArc network (busWeightOf q)) (Ends network q R) v x → Packed network q R v x
   trip-finish (done (inl i)) = record { steps = []; cost = 0; finishes = arrive (i .0) (i .1) refl; packs = i .2 }
   trip-finish (done (inr (j, m))) =
       record {
@@ -40,5 +41,5 @@ module _ {network : List ℕ} {q : Request} where
       }
 
   -- By induction on the finish, and on the trip: to drive is an arc, to arrive or to meet a rider is to be done.
-  pub packed-trip : {R v x : ℕ} → Packed network q R v x ↔ Trip (DriveArc network (q .weight)) (Ends network q R) v x
+  pub packed-trip : {R v x : ℕ} → Packed network q R v x ↔ Trip (DriveArc network (busWeightOf q)) (Ends network q R) v x
   packed-trip = (λ p. finish-trip (p .finishes) (p .packs), trip-finish)

@@ -7,7 +7,7 @@ use native.Mathlib.Decide.{ℕ-discrete}
 use native.Mathlib.Omega.{arith}
 use lib.ListN.{getD}
 use Rattle.rules.specs.Network.{SoundNetwork, nodeCount}
-use Rattle.rules.specs.Request.{riderNodeOf, riderWeightOf}
+use Rattle.rules.specs.Request.{riderNodeOf, riderWeightOf, busWeightOf}
 use Rattle.rules.specs.Walks.{HoldsDistance, noDistance}
 use Rattle.rules.specs.Routes.{RiderWalks}
 use Rattle.rules.specs.Plans.{Has, without}
@@ -86,5 +86,5 @@ module _ {network : List ℕ} {q : Request} where
           rw same at (least-iff seen-more (least-min s (least-none (λ x m. away .0 _ _ (m .walks .walked)))))
 
   -- What spreads over drive arcs from the starts of row R is row R: it is least over trips to those starts, so over trips to all that they are the least of, and those are the packed finishes.
-  pub row-least : {R v : ℕ} {before after : List ℕ} → SoundNetwork network → ((x : ℕ) → x < nodeCount network → Least noFinish (Ends network q R x) (getD before x 0)) → Spread noFinish (nodeCount network) (DriveArc network (q .weight)) before after → v < nodeCount network → Least noFinish (Packed network q R v) (getD after v 0)
+  pub row-least : {R v : ℕ} {before after : List ℕ} → SoundNetwork network → ((x : ℕ) → x < nodeCount network → Least noFinish (Ends network q R x) (getD before x 0)) → Spread noFinish (nodeCount network) (DriveArc network (busWeightOf q)) before after → v < nodeCount network → Least noFinish (Packed network q R v) (getD after v 0)
   row-least {R} {v} sound starts spread h = least-iff (λ x. (packed-trip .1, packed-trip .0)) (compose (drives-inside sound) starts v h (spread .least v h))

@@ -9,6 +9,7 @@ use lib.ListN.{length}
 use Rattle.rules.specs.Plans.{Finish, arrive, meet, drive, driveStep}
 use Rattle.rules.specs.Routes.{Drivable}
 use Rattle.rules.specs.declared.Request.{Request}
+use Rattle.rules.specs.Request.{busWeightOf}
 use Rattle.least.specs.Trips.{Trip, done, step, arcCount, Inside}
 use Rattle.least.specs.Walking.{EndsBelow}
 use Rattle.least.proofs.Shortening.{shortened}
@@ -20,7 +21,7 @@ record Drive (network : List ℕ) (q : Request) (v x w : ℕ) : Type 0 where
   link : ℕ
   cost : ℕ
   leads : Drivable network link v x cost
-  costs : w ≡ q .weight * cost
+  costs : w ≡ busWeightOf q * cost
 
 -- A finish of so many steps.
 record Sized (network : List ℕ) (q : Request) (R count v cost : ℕ) : Type 0 where
@@ -89,7 +90,7 @@ module _ {network : List ℕ} {q : Request} where
         let r = stretch (omega (arith, ends k (leads .exists))) f in
         record {
           rest = r .rest;
-          sum = q .weight * w + r .sum;
+          sum = busWeightOf q * w + r .sum;
           trip = step x _ (r .sum) (record { link = k; cost = w; leads = leads; costs = refl }) (r .trip) refl;
           cheap = omega arith;
           fewer = omega arith;

@@ -8,7 +8,7 @@ use lib.ListN.{length, getD, take, drop, length-append, length-drop}
 use lib.Seq.{drop-cons, length-take-le, take-append-seam}
 use lib.Pow.{pow-pos}
 use Rattle.rules.specs.Network.{SoundNetwork, nodeCount}
-use Rattle.rules.specs.Request.{SoundRequest, SoundValue, recordChecks, requestVerdict, requestValue, source}
+use Rattle.rules.specs.Request.{SoundRequest, SoundValue, recordChecks, requestVerdict, requestValue, source, riderCountOf}
 use Rattle.rules.specs.Plans.{Finish, allRiders}
 use Rattle.rules.specs.Answers.{Outcome, gives, refuses, Lent, Searched, refused, hopeless, planned}
 use Rattle.rules.specs.Program.{line, okWord, refusedWord, stepLine, nodeAfter, stepLines, printed}
@@ -74,7 +74,7 @@ found {network} request {before} {after} {answer} {cost} {count} (planned plan c
         request = requestValue request;
         riders = allRiders (requestValue request);
         cost = c;
-        few = omega (arith, sets-few (requestValue request .count) (value .riders), pow-pos (requestValue request .count));
+        few = omega (arith, sets-few (riderCountOf (requestValue request)) (value .riders), pow-pos (riderCountOf (requestValue request)));
         finish = subst⁻¹ (λ (steps : List ℕ). Finish network (requestValue request) (allRiders (requestValue request)) (source request) steps c) taken (right .best .finishes);
       };
     }

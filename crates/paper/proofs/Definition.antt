@@ -5,7 +5,7 @@ use mathlib.Core.List.{List, _∷_}
 use native.Mathlib.Nat.{mul-add, mul-zero}
 use native.Mathlib.Omega.{arith}
 use Rattle.rules.specs.Network.{SoundNetwork, nodeCount}
-use Rattle.rules.specs.Request.{SoundValue, riderNodeOf, riderWeightOf}
+use Rattle.rules.specs.Request.{SoundValue, riderNodeOf, riderWeightOf, riderCountOf, busWeightOf}
 use Rattle.rules.specs.Routes.{Route, nodeAt, Reaches, RiderWalks, Meeting, sum, Price}
 use Rattle.rules.specs.declared.Request.{Request}
 use Rattle.rules.proofs.PriceLaws.{sum-same}
@@ -45,7 +45,7 @@ module _ {network : List ℕ} (two : TwoWay network) {q : Request} {route : List
       }
 
   -- .. and a rider at such a distance has a meeting position.
-  near-meeting : {j d : ℕ} → SoundNetwork network → SoundValue (nodeCount network) q → j < q .count → NodeRoute (graphOf network) (riderNodeOf q j) (q .source ∷ nodesOf network route) d → (p : ℕ) × Meeting network q route j p d
+  near-meeting : {j d : ℕ} → SoundNetwork network → SoundValue (nodeCount network) q → j < riderCountOf q → NodeRoute (graphOf network) (riderNodeOf q j) (q .source ∷ nodesOf network route) d → (p : ℕ) × Meeting network q route j p d
   near-meeting {j} {d} sound value h near =
       let (position, within, is) = passed network (q .source) route (near .passed) in
       let walks : RiderWalks network q j (nodeAt network (q .source) route position) d = rw is at (dist-distance two (near .reached)) in
@@ -66,34 +66,34 @@ module _ {network : List ℕ} (two : TwoWay network) {q : Request} {w : ℕ} (we
   PathCost = Cost (graphOf network) (queryOf q w weights)
 
   -- The riders' part of the price, with the one weight taken out.
-  same-weight : (walking : ℕ → ℕ) → sum (q .count) (λ j. riderWeightOf q j * walking j) ≡ w * sum (q .count) walking
+  same-weight : (walking : ℕ → ℕ) → sum (riderCountOf q) (λ j. riderWeightOf q j * walking j) ≡ w * sum (riderCountOf q) walking
   same-weight walking =
-      sum-same (q .count) _ _ (λ j h. ap (λ (x : ℕ). x * walking j) (weights .riders j h)) ∙ sum-times w (q .count) walking
+      sum-same (riderCountOf q) _ _ (λ j h. ap (λ (x : ℕ). x * walking j) (weights .riders j h)) ∙ sum-times w (riderCountOf q) walking
 
   -- The price is (a+w) × f(P), where P is the path along the route ..
-  pub price-cost : {route meetings : List ℕ} {price : ℕ} → Price network q route meetings price → (f : Fraction) × PathCost (nodesOf network route) f × IsWhole (times f (q .weight + w)) price
+  pub price-cost : {route meetings : List ℕ} {price : ℕ} → Price network q route meetings price → (f : Fraction) × PathCost (nodesOf network route) f × IsWhole (times f (busWeightOf q + w)) price
   price-cost p = (
-    average (queryOf q w weights .alpha) (p .driving) (sum (q .count) (p .walking)),
+    average (queryOf q w weights .alpha) (p .driving) (sum (riderCountOf q) (p .walking)),
     record { c = p .driving; d = p .walking; path = drive-path two (p .drives); near = λ j h. meeting-near two (p .meets j h); averages = refl },
-    rw (p .adds, same-weight (p .walking)) (average-is (q .weight) w (omega arith) (p .driving) (sum (q .count) (p .walking))),
+    rw (p .adds, same-weight (p .walking)) (average-is (busWeightOf q) w (omega arith) (p .driving) (sum (riderCountOf q) (p .walking))),
   )
 
   -- .. and no other number is f(P), unless links between the same nodes differ in cost.
-  pub price-is : {route meetings : List ℕ} {price : ℕ} {f : Fraction} → OneWeight (graphOf network) → Price network q route meetings price → PathCost (nodesOf network route) f → IsWhole (times f (q .weight + w)) price
+  pub price-is : {route meetings : List ℕ} {price : ℕ} {f : Fraction} → OneWeight (graphOf network) → Price network q route meetings price → PathCost (nodesOf network route) f → IsWhole (times f (busWeightOf q + w)) price
   price-is {price = price} one p x =
       let (g, y, is) = price-cost p in
-      subst (λ (h : Fraction). IsWhole (times h (q .weight + w)) price) (cost-unique one y x) is
+      subst (λ (h : Fraction). IsWhole (times h (busWeightOf q + w)) price) (cost-unique one y x) is
 
   module _ (sound : SoundNetwork network) (value : SoundValue (nodeCount network) q) where
     -- A legal route whose riders all reach it has a price, and it is (a+w) × f(P).
-    pub route-cost : {route : List ℕ} {driving : ℕ} → Route network q route driving → ((j : ℕ) → j < q .count → Reaches network q route j) → (price : ℕ) × (f : Fraction) × HasPrice network q route price × PathCost (nodesOf network route) f × IsWhole (times f (q .weight + w)) price
+    pub route-cost : {route : List ℕ} {driving : ℕ} → Route network q route driving → ((j : ℕ) → j < riderCountOf q → Reaches network q route j) → (price : ℕ) × (f : Fraction) × HasPrice network q route price × PathCost (nodesOf network route) f × IsWhole (times f (busWeightOf q + w)) price
     route-cost drives reaches =
         let (price, has) = route-price sound value _ drives reaches in
         let (f, x, is) = price-cost (has .prices) in
         (price, f, has, x, is)
 
     -- Where c is what driving it costs and d what equation (1) says, that price is a × c + w × sum of d.
-    pub route-worth : {route : List ℕ} {c : ℕ} (d : ℕ → ℕ) → Route network q route c → ((j : ℕ) → j < q .count → NodeRoute (graphOf network) (riderNodeOf q j) (q .source ∷ nodesOf network route) (d j)) → HasPrice network q route (q .weight * c + w * sum (q .count) d)
+    pub route-worth : {route : List ℕ} {c : ℕ} (d : ℕ → ℕ) → Route network q route c → ((j : ℕ) → j < riderCountOf q → NodeRoute (graphOf network) (riderNodeOf q j) (q .source ∷ nodesOf network route) (d j)) → HasPrice network q route (busWeightOf q * c + w * sum (riderCountOf q) d)
     route-worth d drives near =
         rw (← same-weight d) (meet q d drives (λ j h. near-meeting two sound value h (near j h)))
 
@@ -104,21 +104,21 @@ module _ {network : List ℕ} (two : TwoWay network) {q : Request} {w : ℕ} (we
         record {
           route = route;
           nodes = nodes;
-          price = q .weight * x .c + w * sum (q .count) (x .d);
+          price = busWeightOf q * x .c + w * sum (riderCountOf q) (x .d);
           priced = route-worth (x .d) drives (λ j h. rw nodes (x .near j h));
-          is = rw (x .averages) (average-is (q .weight) w (omega arith) (x .c) (sum (q .count) (x .d)));
+          is = rw (x .averages) (average-is (busWeightOf q) w (omega arith) (x .c) (sum (riderCountOf q) (x .d)));
         }
 
     -- A route of least price goes along a path that Definition 2.1 asks for ..
-    pub lowest-optimal : {route meetings : List ℕ} {price : ℕ} → Price network q route meetings price → NoLower network q price → (f : Fraction) × Optimal (graphOf network) (queryOf q w weights) (nodesOf network route) f × IsWhole (times f (q .weight + w)) price
+    pub lowest-optimal : {route meetings : List ℕ} {price : ℕ} → Price network q route meetings price → NoLower network q price → (f : Fraction) × Optimal (graphOf network) (queryOf q w weights) (nodesOf network route) f × IsWhole (times f (busWeightOf q + w)) price
     lowest-optimal {price = price} p low =
         let (f, x, is) = price-cost p in
         let least : (P : List ℕ) (g : Fraction) → PathCost P g → AtMost f g =
-        λ P g y. let r = cost-price y in le-at-most f g (q .weight + w) price (r .price) (omega arith) is (r .is) (low _ _ _ (r .priced .prices)) in
+        λ P g y. let r = cost-price y in le-at-most f g (busWeightOf q + w) price (r .price) (omega arith) is (r .is) (low _ _ _ (r .priced .prices)) in
         (f, record { costs = x; least = least }, is)
 
     -- .. and each such path is that of a route of least price.
     pub optimal-lowest : {P : List ℕ} {f : Fraction} → Optimal (graphOf network) (queryOf q w weights) P f → (r : PricedPath network q w P f) × NoLower network q (r .price)
     optimal-lowest {f = f} o =
         let r = cost-price (o .costs) in
-        (r, λ route meetings price p. let (g, y, is) = price-cost p in at-most-le f g (q .weight + w) (r .price) price (omega arith) (r .is) is (o .least _ g y))
+        (r, λ route meetings price p. let (g, y, is) = price-cost p in at-most-le f g (busWeightOf q + w) (r .price) price (omega arith) (r .is) is (o .least _ g y))

@@ -6,7 +6,7 @@ use native.Mathlib.Decide.{decLt}
 use native.Mathlib.Omega.{arith}
 use lib.ListN.{length, getD}
 use Rattle.rules.specs.Network.{SoundNetwork, nodeCount}
-use Rattle.rules.specs.Request.{SoundValue, riderWeightOf}
+use Rattle.rules.specs.Request.{SoundValue, riderWeightOf, riderCountOf, busWeightOf}
 use Rattle.rules.specs.Routes.{Route, nodeAt, Reaches, RiderWalks, Meeting, sum}
 use Rattle.rules.specs.declared.Request.{Request}
 use Rattle.least.proofs.Decide.{Lowest, dec-lowest, lowest-of, some-distance, dec-distance}
@@ -14,14 +14,14 @@ use Rattle.least.proofs.Collect.{collect}
 use Rattle.paper.specs.Prices.{HasPrice}
 
 -- Riders who have each a meeting position make a list of them, and a price.
-pub meet : {network : List ℕ} (q : Request) {route : List ℕ} {driving : ℕ} (walking : ℕ → ℕ) → Route network q route driving → ((j : ℕ) → j < q .count → (p : ℕ) × Meeting network q route j p (walking j)) → HasPrice network q route (q .weight * driving + sum (q .count) (λ j. riderWeightOf q j * walking j))
+pub meet : {network : List ℕ} (q : Request) {route : List ℕ} {driving : ℕ} (walking : ℕ → ℕ) → Route network q route driving → ((j : ℕ) → j < riderCountOf q → (p : ℕ) × Meeting network q route j p (walking j)) → HasPrice network q route (busWeightOf q * driving + sum (riderCountOf q) (λ j. riderWeightOf q j * walking j))
 meet {network} q {route} {driving} walking drives meets =
-    let (meetings, size, met) = collect (q .count) (λ j p. Meeting network q route j p (walking j)) meets in
+    let (meetings, size, met) = collect (riderCountOf q) (λ j p. Meeting network q route j p (walking j)) meets in
     record { meetings = meetings; size = size; prices = record { driving = driving; walking = walking; drives = drives; meets = met; adds = refl } }
 
 module _ {network : List ℕ} (sound : SoundNetwork network) {q : Request} (value : SoundValue (nodeCount network) q) (route : List ℕ) where
   -- Of the distances to the positions that a rider reaches one is the least, and of the positions with that distance one is the earliest.
-  pub nearest : {j : ℕ} → j < q .count → Reaches network q route j → (d : ℕ) × ((p : ℕ) × Meeting network q route j p d)
+  pub nearest : {j : ℕ} → j < riderCountOf q → Reaches network q route j → (d : ℕ) × ((p : ℕ) × Meeting network q route j p d)
   nearest {j} h r = (
     least .number,
     (
@@ -54,7 +54,7 @@ module _ {network : List ℕ} (sound : SoundNetwork network) {q : Request} (valu
       first = least .holds
 
   -- A legal route whose riders all reach it has a price.
-  pub route-price : {driving : ℕ} → Route network q route driving → ((j : ℕ) → j < q .count → Reaches network q route j) → (price : ℕ) × HasPrice network q route price
+  pub route-price : {driving : ℕ} → Route network q route driving → ((j : ℕ) → j < riderCountOf q → Reaches network q route j) → (price : ℕ) × HasPrice network q route price
   route-price drives reaches =
-      let (distances, size, near) = collect (q .count) (λ j d. (p : ℕ) × Meeting network q route j p d) (λ j h. nearest h (reaches j h)) in
+      let (distances, size, near) = collect (riderCountOf q) (λ j d. (p : ℕ) × Meeting network q route j p d) (λ j h. nearest h (reaches j h)) in
       (_, meet q (λ j. getD distances j 0) drives near)

@@ -7,6 +7,7 @@ use Rattle.rules.specs.Network.{linkCount, from, to, drive, walk, closed}
 use Rattle.rules.specs.Walks.{Way, Walkable}
 use Rattle.rules.specs.Routes.{RiderWalks}
 use Rattle.rules.specs.declared.Request.{Request}
+use Rattle.rules.specs.Request.{riderCountOf}
 
 -- The same links between the same nodes, at whatever costs. (The number of nodes plays no part in a price.)
 pub record SameLinks (a b : List ℕ) : Type 0 where
@@ -34,7 +35,7 @@ SameOnRoute a b route = (k : ℕ) → List·Memᴰ k route → k < linkCount a �
 
 -- Every rider has the same walking distances.
 abbrev pub SameDistances : List ℕ → List ℕ → Request → Type 0
-SameDistances a b q = (j v d : ℕ) → j < q .count → RiderWalks a q j v d ↔ RiderWalks b q j v d
+SameDistances a b q = (j v d : ℕ) → j < riderCountOf q → RiderWalks a q j v d ↔ RiderWalks b q j v d
 
 -- All is the same but the walk cost of link k.
 pub record SameButWalk (k : ℕ) (a b : List ℕ) : Type 0 where

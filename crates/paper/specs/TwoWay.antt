@@ -5,7 +5,7 @@ use mathlib.Core.Logic.{_⊎_, ⊎-swap}
 use mathlib.Core.List.{List, map}
 use native.Mathlib.Omega.{arith}
 use Rattle.rules.specs.Network.{linkCount, from, to, drive, walk, closed}
-use Rattle.rules.specs.Request.{riderNodeOf, riderWeightOf}
+use Rattle.rules.specs.Request.{riderNodeOf, riderWeightOf, riderCountOf, busWeightOf}
 use Rattle.rules.specs.Walks.{Walkable}
 use Rattle.rules.specs.declared.Request.{Request}
 use Rattle.paper.specs.Fraction.{Fraction, times, IsWhole}
@@ -36,9 +36,9 @@ graphOf network =
 
 -- The bus weighs a, every rider w.
 pub record EqualWeights (q : Request) (w : ℕ) : Type 0 where
-  pub bus : 0 < q .weight
+  pub bus : 0 < busWeightOf q
   pub positive : 0 < w
-  pub riders : (j : ℕ) → j < q .count → riderWeightOf q j ≡ w
+  pub riders : (j : ℕ) → j < riderCountOf q → riderWeightOf q j ≡ w
 
 -- The paper weighs the driver's cost α and the riders' 1 - α. With α = a/(a+w) that is a : w, in whole numbers (a+w) × α = a and (a+w) × (1 - α) = w.
 abbrev pub queryOf : (q : Request) (w : ℕ) → EqualWeights q w → Query
@@ -46,9 +46,9 @@ queryOf q w weights =
     record {
       s = q .source;
       t = q .target;
-      l = q .count;
+      l = riderCountOf q;
       U = riderNodeOf q;
-      alpha = record { top = q .weight; bottom = q .weight + w; positive = omega arith };
+      alpha = record { top = busWeightOf q; bottom = busWeightOf q + w; positive = omega arith };
       above = weights .bus;
       below = omega arith;
     }
@@ -63,4 +63,4 @@ pub record PricedPath (network : List ℕ) (q : Request) (w : ℕ) (P : List ℕ
   pub nodes : nodesOf network route ≡ P
   pub price : ℕ
   pub priced : HasPrice network q route price
-  pub is : IsWhole (times f (q .weight + w)) price
+  pub is : IsWhole (times f (busWeightOf q + w)) price

@@ -6,7 +6,7 @@ use mathlib.Core.Path.{_≡_}
 use mathlib.Core.List.{List, [], _∷_, _++_}
 use lib.ListN.{length}
 use Rattle.rules.specs.Network.{nodeCount, SoundNetwork}
-use Rattle.rules.specs.Request.{riderWeightOf, SoundValue, recordChecks, requestVerdict, requestValue}
+use Rattle.rules.specs.Request.{riderWeightOf, SoundValue, recordChecks, requestVerdict, requestValue, riderCountOf}
 use Rattle.rules.specs.Walks.{Way, arrived, along}
 use Rattle.rules.specs.Routes.{Drivable, sum, Price, routeChecks}
 use Rattle.rules.specs.Answers.{Outcome, gives, Pricing, refused, stranded, priced}
@@ -43,7 +43,7 @@ price-bounded {network} {q} {route} sound value passes p =
     let far : p .driving ≤ 4095 * 65534 = omega (arith, known .few, driving-bounded (p .drives)) in
     let drives = mul-le-mul (value .bus .1) far in
     let from : RouteFrom network (q .source) route = record { sound = sound; starts = value .starts; known = known } in
-    let walks = sum-bounded (q .count) (λ j. riderWeightOf q j * p .walking j)
+    let walks = sum-bounded (riderCountOf q) (λ j. riderWeightOf q j * p .walking j)
     (λ j h. mul-le-mul (value .weights j h .1) (walking-bounded sound (node-below route from _ (p .meets j h .within)) (p .meets j h .walks))) in
     omega (arith, p .adds, value .riders, drives, walks)
 

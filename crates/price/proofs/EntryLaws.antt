@@ -9,7 +9,7 @@ use lib.Seq.{length-take-le}
 use lib.Dec.{ltb}
 use borrow.Author.Tests.{lt-ltb, le-ltb}
 use Rattle.rules.specs.Checks.{check, refuse, firstOf}
-use Rattle.rules.specs.Request.{recordChecks, requestVerdict, requestValue}
+use Rattle.rules.specs.Request.{recordChecks, requestVerdict, requestValue, riderCountOf}
 use Rattle.rules.specs.Routes.{routeChecks}
 use Rattle.rules.specs.Rooms.{Written}
 use Rattle.rules.specs.Answers.{Outcome, gives, refuses, Pricing, refused, stranded, priced, priceChecks, PricedRoute}
@@ -44,7 +44,7 @@ module _ (network request route before : List ℕ) where
         written = refl;
       }
 
-  module _ (accepted : requestVerdict network request ≡ Accepted) {count : ℕ} (reads-count : count ≡ requestValue request .count) where
+  module _ (accepted : requestVerdict network request ≡ Accepted) {count : ℕ} (reads-count : count ≡ riderCountOf (requestValue request)) where
     past-records : firstOf (priceChecks network request route (length before)) ≡ firstOf (check 31 0 (ltb (length before) count) ∷ routeChecks network (requestValue request) route)
     unfolding requestVerdict
     past-records = rw reads-count (front-passed (recordChecks network request) _ accepted)
@@ -66,7 +66,7 @@ module _ (network request route before : List ℕ) where
         }
 
 -- a price comes with as many meeting positions as there are riders
-pub meeting-count : {v : Verdict} {network : List ℕ} {q : Request} {route : List ℕ} {answer : Outcome} {meetings : List ℕ} {values : List ℕ} → Pricing v network q route answer meetings → answer ≡ gives values → length meetings ≡ q .count
+pub meeting-count : {v : Verdict} {network : List ℕ} {q : Request} {route : List ℕ} {answer : Outcome} {meetings : List ℕ} {values : List ℕ} → Pricing v network q route answer meetings → answer ≡ gives values → length meetings ≡ riderCountOf q
 meeting-count (refused r is told none) e = clash (cc)
 meeting-count (stranded j is h lost first told none) e = clash (cc)
 meeting-count (priced p is so size told) e = size

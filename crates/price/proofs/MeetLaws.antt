@@ -13,7 +13,7 @@ use lib.Dec.{eqb}
 use borrow.Author.Tests.{eq-eqb, ne-eqb}
 use Rattle.rules.specs.Checks.{refuse}
 use Rattle.rules.specs.Walks.{noDistance}
-use Rattle.rules.specs.Request.{riderNodeOf, riderWeightOf}
+use Rattle.rules.specs.Request.{riderNodeOf, riderWeightOf, riderCountOf, busWeightOf}
 use Rattle.rules.specs.Routes.{Meeting, Stranded, sum}
 use Rattle.rules.specs.Answers.{gives, pricedOutcome, Pricing, stranded, priced}
 use Rattle.rules.specs.declared.Request.{Request}
@@ -56,7 +56,7 @@ unfolding put
 put-other f j x i h = simp (ne-eqb i j h)
 
 module _ {network : List ℕ} {q : Request} {route : List ℕ} {driving : ℕ} (may : Driveable network q route driving) where
-  pub met-none : MetBelow network q route driving 0 (q .weight * driving) (replicate 7 0)
+  pub met-none : MetBelow network q route driving 0 (busWeightOf q * driving) (replicate 7 0)
   unfolding sum
   met-none =
       record {
@@ -68,7 +68,7 @@ module _ {network : List ℕ} {q : Request} {route : List ℕ} {driving : ℕ} (
         small = omega (arith, mul-le-mul (may .request .bus .1) (may .small));
       }
 
-  module _ {j price : ℕ} {meetings : List ℕ} (so : MetBelow network q route driving j price meetings) (more : j < q .count) where
+  module _ {j price : ℕ} {meetings : List ℕ} (so : MetBelow network q route driving j price meetings) (more : j < riderCountOf q) where
     -- one rider more
     pub met-more : {position place : ℕ} → Meeting network q route j position place → place ≤ noDistance → MetBelow network q route driving (j + 1) (price + riderWeightOf q j * place) (set meetings j position)
     met-more {position} {place} meeting low =
@@ -88,25 +88,25 @@ module _ {network : List ℕ} {q : Request} {route : List ℕ} {driving : ℕ} (
         }
 
     -- a rider who can walk to no position, the first
-    pub met-stranded : {r : Priced} → Stranded network q route j → r ≡ Refused (refuse 37 j) → Pricing Accepted network q route (pricedOutcome r) (meetingsOf (Refused (refuse 37 j)) meetings (q .count))
+    pub met-stranded : {r : Priced} → Stranded network q route j → r ≡ Refused (refuse 37 j) → Pricing Accepted network q route (pricedOutcome r) (meetingsOf (Refused (refuse 37 j)) meetings (riderCountOf q))
     met-stranded none told =
         stranded j refl more none
         (λ i h lost. lost _ _ (so .meets i h .within) (so .meets i h .walks))
         (ap pricedOutcome told) refl
 
   -- all of them
-  pub met-all : {j price : ℕ} {meetings : List ℕ} → MetBelow network q route driving j price meetings → q .count ≤ j → Pricing Accepted network q route (gives (price ∷ [])) (take (q .count) meetings)
+  pub met-all : {j price : ℕ} {meetings : List ℕ} → MetBelow network q route driving j price meetings → riderCountOf q ≤ j → Pricing Accepted network q route (gives (price ∷ [])) (take (riderCountOf q) meetings)
   met-all {j} {price} {meetings} so all =
-      let e : j ≡ q .count = omega (arith, so .within) in
+      let e : j ≡ riderCountOf q = omega (arith, so .within) in
       priced price refl
       (record {
         driving = driving;
         walking = so .walking;
         drives = may .drives;
-        meets = λ i h. rw (getD-take (q .count) meetings i 0 h) (so .meets i (omega arith));
+        meets = λ i h. rw (getD-take (riderCountOf q) meetings i 0 h) (so .meets i (omega arith));
         adds = rw e at (so .adds);
       })
-      (length-take-le (q .count) meetings (omega (arith, so .size, may .request .riders))) refl
+      (length-take-le (riderCountOf q) meetings (omega (arith, so .size, may .request .riders))) refl
 
 pub route-from : {network : List ℕ} {q : Request} {route : List ℕ} {driving : ℕ} → Driveable network q route driving → RouteFrom network (q .source) route
 route-from may = record { sound = may .sound; starts = may .request .starts; known = may .known }

@@ -4,7 +4,7 @@ use mathlib.Core.Path.{_≡_}
 use mathlib.Core.List.{List, []}
 use lib.ListN.{length, getD, take}
 use Rattle.rules.specs.Network.{SoundNetwork, nodeCount}
-use Rattle.rules.specs.Request.{SoundValue, riderWeightOf}
+use Rattle.rules.specs.Request.{SoundValue, riderWeightOf, riderCountOf, busWeightOf}
 use Rattle.rules.specs.Routes.{Route, Meeting, sum}
 use Rattle.rules.specs.declared.Request.{Request}
 use Rattle.rules.specs.declared.Priced.{Priced}
@@ -21,10 +21,10 @@ pub record Driveable (network : List ℕ) (q : Request) (route : List ℕ) (driv
 
 -- The riders below j are met, and what has been added up so far.
 pub record MetBelow (network : List ℕ) (q : Request) (route : List ℕ) (driving j price : ℕ) (meetings : List ℕ) : Type 0 where
-  pub within : j ≤ q .count
+  pub within : j ≤ riderCountOf q
   pub walking : ℕ → ℕ
   pub meets : (i : ℕ) → i < j → Meeting network q route i (getD meetings i 0) (walking i)
-  pub adds : price ≡ q .weight * driving + sum j (λ i. riderWeightOf q i * walking i)
+  pub adds : price ≡ busWeightOf q * driving + sum j (λ i. riderWeightOf q i * walking i)
   pub size : length meetings ≡ 7
   pub small : price ≤ 26836582500 + 429496729500 * j
 

@@ -8,7 +8,7 @@ use rules::Request;
 use rules::Verdict;
 ghost use Rattle.rules.specs.Checks.{firstOf};
 ghost use Rattle.rules.specs.Network.{SoundNetwork, nodeCount};
-ghost use Rattle.rules.specs.Request.{SoundValue};
+ghost use Rattle.rules.specs.Request.{SoundValue, riderCountOf};
 ghost use Rattle.rules.specs.Routes.{routeChecks};
 ghost use Rattle.rules.specs.Answers.{pricedOutcome, Pricing};
 ghost use Rattle.price.specs.Meetings.{meetingsOf};
@@ -16,7 +16,7 @@ ghost use Rattle.price.specs.Meetings.{meetingsOf};
 // The price of a route with its meeting positions, or refusal 32 to 37.
 pub fn price_route(network: &[u8], q: Request, route: &[u16]) -> RoutePrice
     requires { ⌜ SoundNetwork (now network) × SoundValue (nodeCount (now network)) q ⌝ }
-    ensures { λ r. ⌜ Pricing (firstOf (routeChecks (now (network .entry)) q (now (route .entry)))) (now (network .entry)) q (now (route .entry)) (pricedOutcome (r .answer)) (meetingsOf (r .answer) (r .meetings) (q .count)) ⌝ }
+    ensures { λ r. ⌜ Pricing (firstOf (routeChecks (now (network .entry)) q (now (route .entry)))) (now (network .entry)) q (now (route .entry)) (pricedOutcome (r .answer)) (meetingsOf (r .answer) (r .meetings) (riderCountOf q)) ⌝ }
 {
     let verdict = route_verdict(network, q, route);
     if let Verdict::Refused(r) = verdict {

@@ -24,7 +24,7 @@ pub fn price(network: &[u8], request: &[u8], route: &[u16], meeting: &mut [u16])
         return Priced::Refused(r);
     }
     let q = read.request;
-    let count = q.count;
+    let count = q.rider_count;
     if meeting.len() < count {
         return Priced::Refused(Refusal {
             number: 31,

@@ -12,6 +12,7 @@ ghost use mathlib.Core.Path.{_≡_};
 ghost use lib.ListN.{length};
 ghost use Rattle.rules.specs.Network.{nodeCount};
 ghost use Rattle.rules.specs.Answers.{pricedOutcome, Pricing};
+ghost use Rattle.rules.specs.Request.{riderCountOf};
 ghost use Rattle.price.specs.Meetings.{Driveable, meetingsOf};
 ghost use Rattle.price.specs.Near.{RouteFrom, NearestPosition, Sofar, distanceAt, closerOf};
 
@@ -31,15 +32,15 @@ pub struct RoutePrice {
 // who can walk to no position.
 pub fn meet_riders(network: &[u8], q: Request, route: &[u16], driving: u64) -> RoutePrice
     requires { ⌜ Driveable (now network) q (now route) driving ⌝ }
-    ensures { λ r. ⌜ Pricing Verdict.Accepted (now (network .entry)) q (now (route .entry)) (pricedOutcome (r .answer)) (meetingsOf (r .answer) (r .meetings) (q .count)) ⌝ }
+    ensures { λ r. ⌜ Pricing Verdict.Accepted (now (network .entry)) q (now (route .entry)) (pricedOutcome (r .answer)) (meetingsOf (r .answer) (r .meetings) (riderCountOf q)) ⌝ }
 {
     let nodes = q.nodes;
     let weights = q.weights;
     let mut meetings = [0u16; 7];
-    let weight = q.weight;
+    let weight = q.bus_weight;
     let mut price = weight * driving;
     let mut j = 0;
-    while j < q.count {
+    while j < q.rider_count {
         let spot = nearest(network, nodes[j], q.source, route);
         let distance = spot.distance;
         if distance == NO_DISTANCE {

@@ -28,7 +28,22 @@ pub link-settled : (network : RefT (List ℕ)) (k : ℕ) (a b : RefT (List ℕ))
 link-settled network k a b p q = part-unique p q
 
 -- ---- case A is read
-pub request-read : requestOf town caseA ≡ record { verdict = Accepted; request = record { source = 0; target = 3; weight = 1; count = 1; nodes = 4 ∷ 0 ∷ 0 ∷ 0 ∷ 0 ∷ 0 ∷ 0 ∷ []; weights = 1 ∷ 0 ∷ 0 ∷ 0 ∷ 0 ∷ 0 ∷ 0 ∷ [] } }
+-- its value, with a node at the place of rider 1, whom it does not have
+abbrev readA : ℕ → RequestRead
+readA stray =
+    record {
+      verdict = Accepted;
+      request = record {
+        source = 0;
+        target = 3;
+        «bus_weight» = 1;
+        «rider_count» = 1;
+        nodes = 4 ∷ stray ∷ 0 ∷ 0 ∷ 0 ∷ 0 ∷ 0 ∷ [];
+        weights = 1 ∷ 0 ∷ 0 ∷ 0 ∷ 0 ∷ 0 ∷ 0 ∷ [];
+      };
+    }
+
+pub request-read : requestOf town caseA ≡ readA 0
 unfolding networkChecks openingChecks sizeChecks number firstOf each requestOf requestVerdict requestChecks countChecks nodeChecks weightChecks requestValue sevenPlaces
 request-read = refl
 
@@ -66,7 +81,7 @@ not-the-weight-first e =
     let number : _≡_ {A = ℕ} 17 16 = refuses-same (ap (λ (r : RequestRead). verdictOutcome (r .verdict)) (e ∙ bad-request)) .0 in
     omega arith
 
-pub not-with-a-stray-rider : record { verdict = Accepted; request = record { source = 0; target = 3; weight = 1; count = 1; nodes = 4 ∷ 4 ∷ 0 ∷ 0 ∷ 0 ∷ 0 ∷ 0 ∷ []; weights = 1 ∷ 0 ∷ 0 ∷ 0 ∷ 0 ∷ 0 ∷ 0 ∷ [] } } ≡ requestOf town caseA → ⊥
+pub not-with-a-stray-rider : readA 4 ≡ requestOf town caseA → ⊥
 not-with-a-stray-rider e =
     let node : _≡_ {A = ℕ} 4 0 = ap (λ (r : RequestRead). getD (r .request .nodes) 1 0) (e ∙ request-read) in
     omega arith

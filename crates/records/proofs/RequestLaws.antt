@@ -6,7 +6,7 @@ use mathlib.Core.List.{List}
 use lib.ListN.{length, set}
 use borrow.Author.Tests.{lt-ltb, le-ltb, eq-eqb, ne-eqb}
 use Rattle.rules.specs.Checks.{firstOf, refuse, beside}
-use Rattle.rules.specs.Request.{riderCount, riderStart, countChecks, sevenPlaces, requestVerdict, requestValue, noRequest, requestOf}
+use Rattle.rules.specs.Request.{riderCount, riderStart, countChecks, sevenPlaces, requestVerdict, requestValue, noRequest, requestOf, riderCountOf}
 use Rattle.rules.specs.declared.RequestRead.{RequestRead}
 use Rattle.rules.specs.declared.Verdict.{Verdict}
 use Rattle.rules.specs.declared.Verdict.the-variants.{Accepted, Refused}
@@ -53,10 +53,10 @@ module _ (network s : List ℕ) {r : RequestRead} (is : r ≡ requestOf network 
     request-value = rw (is, request-accepted)
 
 -- no request that is handed back has more riders than places
-pub few-riders : (network s : List ℕ) → requestOf network s .request .count ≤ 7
+pub few-riders : (network s : List ℕ) → riderCountOf (requestOf network s .request) ≤ 7
 unfolding requestOf requestValue noRequest
 few-riders network s = go (requestVerdict network s) refl
   where
-    go : (v : Verdict) → requestVerdict network s ≡ v → beside v (requestValue s) noRequest .count ≤ 7
+    go : (v : Verdict) → requestVerdict network s ≡ v → riderCountOf (beside v (requestValue s) noRequest) ≤ 7
     go Accepted e = records-sound network s e .1 .riders
     go (Refused r) e = omega arith

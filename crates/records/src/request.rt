@@ -38,8 +38,8 @@ fn no_request() -> Request
     Request {
         source: 0,
         target: 0,
-        weight: 0,
-        count: 0,
+        bus_weight: 0,
+        rider_count: 0,
         nodes: [0; 7],
         weights: [0; 7],
     }
@@ -54,8 +54,8 @@ fn request_value(request: &[u8]) -> Request
     Request {
         source: inner::request_source(request),
         target: inner::request_target(request),
-        weight: inner::bus_weight(request) as u64,
-        count,
+        bus_weight: inner::bus_weight(request) as u64,
+        rider_count: count,
         nodes: rider_nodes(request, count),
         weights: rider_weights(request, count),
     }

@@ -7,7 +7,7 @@ use lib.ListN.{length}
 use native.Mathlib.Nat.{sub-right-comm}
 use native.Mathlib.Decide.{ℕ-discrete}
 use native.Mathlib.Omega.{arith}
-use Rattle.rules.specs.Request.{riderWeightOf}
+use Rattle.rules.specs.Request.{riderWeightOf, busWeightOf}
 use Rattle.rules.specs.Routes.{RiderWalks, nodeAt}
 use Rattle.rules.specs.Plans.{Has, without, Finish, arrive, meet, drive, NoLater}
 use Rattle.rules.specs.declared.Request.{Request}
@@ -132,7 +132,7 @@ module _ {network : List ℕ} {q : Request} {j : ℕ} where
         others = step ∷ t .others;
         position = suc (t .position);
         d = t .d;
-        rest = q .weight * w + t .rest;
+        rest = busWeightOf q * w + t .rest;
         added = driving (t .position) high refl (t .added);
         finishes = drive k x w (t .rest) s link (t .finishes) refl;
         within = rw (drives-drive (t .others) high) (omega arith);

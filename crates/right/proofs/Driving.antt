@@ -8,7 +8,7 @@ use lib.ListN.{length}
 use native.Mathlib.Nat.{mul-add, mul-zero}
 use native.Mathlib.Decide.{ℕ-discrete}
 use native.Mathlib.Omega.{arith}
-use Rattle.rules.specs.Request.{riderWeightOf}
+use Rattle.rules.specs.Request.{riderWeightOf, busWeightOf}
 use Rattle.rules.specs.Walks.{Way, arrived, along}
 use Rattle.rules.specs.Routes.{Drivable, RiderWalks, nodeAt, sum}
 use Rattle.rules.specs.Plans.{Has, Finish, arrive, meet, drive}
@@ -24,12 +24,12 @@ use Rattle.right.proofs.Adding.{added-drives, added-at, added-other, ta
 pub record Driven (network : List ℕ) (q : Request) (R v : ℕ) (steps : List ℕ) (cost : ℕ) : Type 0 where
   pub driving : ℕ
   pub way : Way (Drivable network) (q .target) v (drivesOf steps) driving
-  pub paid : R ≡ 0 → cost ≡ q .weight * driving
+  pub paid : R ≡ 0 → cost ≡ busWeightOf q * driving
 
 module _ {network : List ℕ} {q : Request} where
   pub driven : {R v c : ℕ} {steps : List ℕ} → R < 2 ^ 7 → Finish network q R v steps c → Driven network q R v steps c
   unfolding drivesOf
-  driven small (arrive e t z) = record { driving = 0; way = arrived t refl; paid = λ _. omega (arith, mul-zero (q .weight)) }
+  driven small (arrive e t z) = record { driving = 0; way = arrived t refl; paid = λ _. omega (arith, mul-zero (busWeightOf q)) }
   driven {R} small (meet {j = j} {steps = steps} d rest has walks f e) =
       let t = driven (omega arith) f in
       record {
@@ -43,7 +43,7 @@ module _ {network : List ℕ} {q : Request} where
       record {
         driving = w + t .driving;
         way = rw (drives-drive {step = step} steps (omega arith), same) (along x w (t .driving) link (t .way) refl);
-        paid = λ none. omega (arith, t .paid none, mul-add (q .weight) w (t .driving));
+        paid = λ none. omega (arith, t .paid none, mul-add (busWeightOf q) w (t .driving));
       }
 
   -- Each rider of R, and no other, is met once.
@@ -89,7 +89,7 @@ module _ {network : List ℕ} {q : Request} where
   pub met-cost : (l : ℕ) {v c driving : ℕ} {steps : List ℕ} (walking : ℕ → ℕ) → l ≤ 7 → Finish network q (2 ^ l - 1) v steps c
       → Way (Drivable network) (q .target) v (drivesOf steps) driving
       → ((j : ℕ) → j < l → RiderWalks network q j (nodeAt network v (drivesOf steps) (metAt j steps)) (walking j))
-      → c ≡ q .weight * driving + sum l (λ j. riderWeightOf q j * walking j)
+      → c ≡ busWeightOf q * driving + sum l (λ j. riderWeightOf q j * walking j)
   unfolding sum
   met-cost zero walking h f way walks =
       let t = driven (omega arith) f in

@@ -8,7 +8,7 @@ use native.Mathlib.Decide.{decLt}
 use native.Mathlib.Omega.{arith}
 use lib.Pow.{pow-mono, pow-pos}
 use Rattle.rules.specs.Network.{nodeCount, SoundNetwork}
-use Rattle.rules.specs.Request.{SoundValue}
+use Rattle.rules.specs.Request.{SoundValue, riderCountOf}
 use Rattle.rules.specs.Plans.{allRiders, Finish, arrive, meet, drive, NoLater, Best, RightPlan}
 use Rattle.rules.specs.Rooms.{noFinish, HasFinish}
 use Rattle.rules.specs.declared.Request.{Request}
@@ -45,16 +45,16 @@ module _ {network : List ℕ} {q : Request} where
   step-same small (drives k _ e link s _) (drives l _ f other t _) = let same : k ≡ l = omega arith in (cc, cc)
 
   module _ (sound : SoundNetwork network) where
-    pub step-inside : {R v step S x c : ℕ} → Step network q R v step S x c → R < 2 ^ q .count → v < nodeCount network → (S < 2 ^ q .count) × (x < nodeCount network)
+    pub step-inside : {R v step S x c : ℕ} → Step network q R v step S x c → R < 2 ^ riderCountOf q → v < nodeCount network → (S < 2 ^ riderCountOf q) × (x < nodeCount network)
     step-inside (meets _ _ _ s x _) h g = (omega arith, omega arith)
     step-inside (drives k _ _ link s _) h g = (omega arith, omega (arith, sound .ends k (link .exists)))
 
     module _ (value : SoundValue (nodeCount network) q) {T : ℕ → ℕ → ℕ} (table : Tabled network q T) where
-      all-below : allRiders q < 2 ^ q .count
-      all-below = omega (arith, pow-pos (q .count))
+      all-below : allRiders q < 2 ^ riderCountOf q
+      all-below = omega (arith, pow-pos (riderCountOf q))
 
       -- No step with the value where it leads undercuts the value here.
-      relaxed : {R v step S x c : ℕ} → Step network q R v step S x c → R < 2 ^ q .count → v < nodeCount network → T R v ≤ packedStep c + T S x
+      relaxed : {R v step S x c : ℕ} → Step network q R v step S x c → R < 2 ^ riderCountOf q → v < nodeCount network → T R v ≤ packedStep c + T S x
       relaxed {R} {v} {step} {S} {x} {c} s h g = elim (decLt (T S x) noFinish) [
         | yes l ↦ (
             let (i, j) = step-inside s h g in
@@ -65,7 +65,7 @@ module _ {network : List ℕ} {q : Request} where
       ]
 
       -- The first step of a finish of the value here is tight, and what follows has the value where it leads.
-      begun-tight : {R v step c : ℕ} {steps : List ℕ} → R < 2 ^ q .count → v < nodeCount network → T R v ≡ 4096 * c + suc (length steps) → (o : Begun network q R v step steps c) → Tight network q T R v step (o .S) (o .x) × (T (o .S) (o .x) ≡ 4096 * o .rest + length steps)
+      begun-tight : {R v step c : ℕ} {steps : List ℕ} → R < 2 ^ riderCountOf q → v < nodeCount network → T R v ≡ 4096 * c + suc (length steps) → (o : Begun network q R v step steps c) → Tight network q T R v step (o .S) (o .x) × (T (o .S) (o .x) ≡ 4096 * o .rest + length steps)
       begun-tight {steps = steps} h g e o =
           let (i, j) = step-inside (o .leads) h g in
           let low = table (o .S) (o .x) i j .lowest _ (packed (o .finishes)) in
@@ -73,7 +73,7 @@ module _ {network : List ℕ} {q : Request} where
           (record { cost = o .here; leads = o .leads; tight = omega arith }, omega arith)
 
       -- The value is 0 exactly where all is done.
-      pub done : {R v : ℕ} → R < 2 ^ q .count → v < nodeCount network → (T R v ≡ 0) ↔ ((R ≡ 0) × (v ≡ q .target))
+      pub done : {R v : ℕ} → R < 2 ^ riderCountOf q → v < nodeCount network → (T R v ≡ 0) ↔ ((R ≡ 0) × (v ≡ q .target))
       done {R} {v} h g = (
         (λ e. let p = table R v h g .met (omega arith) in empty (p .steps) (p .finishes) (omega (arith, p .packs))),
         λ (r, t). omega (arith, table R v h g .lowest _ (packed (arrive {c = 0} r t refl))),
@@ -84,19 +84,19 @@ module _ {network : List ℕ} {q : Request} where
           empty (s ∷ steps) f e = absurd (omega arith)
 
       -- Where a value is neither none nor 0, some step is tight: the first of a finish of this value.
-      pub some-tight : {R v : ℕ} → R < 2 ^ q .count → v < nodeCount network → T R v < noFinish → 0 < T R v → (step S x : ℕ) × Tight network q T R v step S x
+      pub some-tight : {R v : ℕ} → R < 2 ^ riderCountOf q → v < nodeCount network → T R v < noFinish → 0 < T R v → (step S x : ℕ) × Tight network q T R v step S x
       some-tight {R} {v} h g l some = let p = table R v h g .met l in start (p .steps) (p .finishes) (p .packs)
         where
           start : {c : ℕ} (steps : List ℕ) → Finish network q R v steps c → T R v ≡ 4096 * c + length steps → (step S x : ℕ) × Tight network q T R v step S x
           start [] (arrive r t z) e = absurd (omega arith)
           start (s ∷ steps) f e = let o = begun f in (s, o .S, o .x, begun-tight h g e o .0)
 
-      first-done : {R v : ℕ} → R < 2 ^ q .count → v < nodeCount network → T R v ≡ 0 → First network q R v (T R v) []
+      first-done : {R v : ℕ} → R < 2 ^ riderCountOf q → v < nodeCount network → T R v ≡ 0 → First network q R v (T R v) []
       unfolding NoLater
       first-done h g e = let (r, t) = done h g .0 e in record { cost = 0; finishes = arrive r t refl; packs = e; first = λ other c f same. tt }
 
       -- The lowest tight step, in front of what finishes first from where it leads, finishes first from here. Any other finish of the value here starts with a tight step, so with no lower one. If with a higher one, it comes later. If with the same, then what follows has the value where the step leads, and comes no earlier than what finishes first from there.
-      pub first-next : {R v step S x : ℕ} {steps : List ℕ} → R < 2 ^ q .count → v < nodeCount network → Next network q T R v step S x → First network q S x (T S x) steps → First network q R v (T R v) (step ∷ steps)
+      pub first-next : {R v step S x : ℕ} {steps : List ℕ} → R < 2 ^ riderCountOf q → v < nodeCount network → Next network q T R v step S x → First network q S x (T S x) steps → First network q R v (T R v) (step ∷ steps)
       unfolding NoLater
       first-next {R} {v} {step} {S} {x} {steps} h g next behind =
           record {
@@ -107,7 +107,7 @@ module _ {network : List ℕ} {q : Request} where
           }
         where
           small : R < 2 ^ 7
-          small = omega (arith, pow-mono {i = q .count} {j = 7} (value .riders))
+          small = omega (arith, pow-mono {i = riderCountOf q} {j = 7} (value .riders))
 
           behind-step : {s c : ℕ} {other : List ℕ} → T R v ≡ 4096 * c + suc (length other) → Begun network q R v s other c → NoLater (step ∷ steps) (s ∷ other)
           behind-step {s} {other = other} e o =
@@ -125,13 +125,13 @@ module _ {network : List ℕ} {q : Request} where
           first [] c (arrive r t z) e = absurd (omega (arith, next .tight .tight))
           first (s ∷ other) c f e = behind-step e (begun f)
 
-      best-finish : {R v : ℕ} → R < 2 ^ q .count → v < nodeCount network → T R v < noFinish → (b : HasFinish network q R v (T R v)) × (length (b .steps) ≤ 4095)
+      best-finish : {R v : ℕ} → R < 2 ^ riderCountOf q → v < nodeCount network → T R v < noFinish → (b : HasFinish network q R v (T R v)) × (length (b .steps) ≤ 4095)
       best-finish {R} {v} h g l = elim (least-holds sound value h g (table R v h g)) [
         | inl b ↦ (b, best-bounded sound value h g (b .best) .few)
         | inr none ↦ absurd (omega arith)
       ]
 
-      tight-count : {R v step S x : ℕ} → R < 2 ^ q .count → v < nodeCount network → T R v < noFinish → Tight network q T R v step S x → T R v % 4096 ≡ suc (T S x % 4096)
+      tight-count : {R v step S x : ℕ} → R < 2 ^ riderCountOf q → v < nodeCount network → T R v < noFinish → Tight network q T R v step S x → T R v % 4096 ≡ suc (T S x % 4096)
       tight-count {step = step} h g l t =
           let (i, j) = step-inside (t .leads) h g in
           let (here, few) = best-finish h g l in

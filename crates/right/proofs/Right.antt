@@ -5,7 +5,7 @@ use mathlib.Core.List.{List}
 use lib.ListN.{length}
 use native.Mathlib.Nat.{zero-add, le-of-mul-le-mul-left}
 use native.Mathlib.Omega.{arith}
-use Rattle.rules.specs.Request.{riderWeightOf, SoundValue}
+use Rattle.rules.specs.Request.{riderWeightOf, SoundValue, riderCountOf}
 use Rattle.rules.specs.Routes.{RiderWalks, nodeAt, Meeting, Price}
 use Rattle.rules.specs.Plans.{Plan, RightPlan, NoLater}
 use Rattle.rules.specs.declared.Request.{Request}
@@ -28,15 +28,15 @@ record Moved (network : List ℕ) (q : Request) (steps : List ℕ) (cost j p d e
 
 module _ {network : List ℕ} {q : Request} where
   -- The meeting is taken out and put in at p. If that is earlier, then up to there the steps are the same; next comes j, which is below 8, where the plan had a drive step.
-  moved : {steps : List ℕ} {cost p d e : ℕ} (j : ℕ) → q .count ≤ 7 → j < q .count → Plan network q steps cost
+  moved : {steps : List ℕ} {cost p d e : ℕ} (j : ℕ) → riderCountOf q ≤ 7 → j < riderCountOf q → Plan network q steps cost
       → RiderWalks network q j (nodeAt network (q .source) (drivesOf steps) (metAt j steps)) d
       → p ≤ length (drivesOf steps)
       → RiderWalks network q j (nodeAt network (q .source) (drivesOf steps) p) e
       → Moved network q steps cost j p d e
   moved {steps} {cost} {p} {d} {e} j riders h f walked within walks =
       let rider : j < 8 = omega arith in
-      let small = first-small (q .count) riders in
-      let has = all-have (q .count) j .1 h in
+      let small = first-small (riderCountOf q) riders in
+      let has = all-have (riderCountOf q) j .1 h in
       let t = take small has f in
       let drives = added-drives rider (t .added) in
       let place = added-at rider (t .added) in
@@ -58,7 +58,7 @@ module _ {network : List ℕ} {q : Request} where
         driving = s .driving;
         walking = s .walking;
         drives = s .drives;
-        meets = λ j h. rw (position-at (q .count) 0 j steps h, zero-add j) (meets j h);
+        meets = λ j h. rw (position-at (riderCountOf q) 0 j steps h, zero-add j) (meets j h);
         adds = s .adds;
       }
     where
@@ -68,7 +68,7 @@ module _ {network : List ℕ} {q : Request} where
       s : SumAt network q (drivesOf steps) (λ j. metAt j steps) cost
       s = plan-sum (sound .riders) plan
 
-      meets : (j : ℕ) → j < q .count → Meeting network q (drivesOf steps) j (metAt j steps) (s .walking j)
+      meets : (j : ℕ) → j < riderCountOf q → Meeting network q (drivesOf steps) j (metAt j steps) (s .walking j)
       meets j h =
           record {
             within = s .within j h;

@@ -8,7 +8,7 @@ use native.Mathlib.Nat.{add-zero, mul-add, mul-zero}
 use native.Mathlib.Decide.{ℕ-discrete}
 use native.Mathlib.Omega.{arith}
 use Rattle.rules.specs.Network.{SoundNetwork, nodeCount}
-use Rattle.rules.specs.Request.{riderWeightOf, SoundValue}
+use Rattle.rules.specs.Request.{riderWeightOf, SoundValue, riderCountOf, busWeightOf}
 use Rattle.rules.specs.Walks.{Way, arrived, along}
 use Rattle.rules.specs.Routes.{Drivable, Route, RiderWalks, nodeAt, sum, Price}
 use Rattle.rules.specs.Plans.{driveStep, Finish, arrive, drive, Plan, RightPlan, NoPlan}
@@ -29,9 +29,9 @@ drives-map [] = refl
 drives-map (k ∷ route) = let same : driveStep k - 8 ≡ k = omega arith in drives-drive (map driveStep route) (omega arith) ∙ ap₂ _∷_ same (drives-map route)
 
 module _ {network : List ℕ} {q : Request} where
-  way-finish : {v driving : ℕ} {route : List ℕ} → Way (Drivable network) (q .target) v route driving → Finish network q 0 v (map driveStep route) (q .weight * driving)
-  way-finish (arrived t z) = arrive refl t (ap (λ (c : ℕ). q .weight * c) z ∙ mul-zero (q .weight))
-  way-finish (along {k = k} x w rest link way e) = drive k x w (q .weight * rest) refl link (way-finish way) (ap (λ (c : ℕ). q .weight * c) e ∙ mul-add (q .weight) w rest)
+  way-finish : {v driving : ℕ} {route : List ℕ} → Way (Drivable network) (q .target) v route driving → Finish network q 0 v (map driveStep route) (busWeightOf q * driving)
+  way-finish (arrived t z) = arrive refl t (ap (λ (c : ℕ). busWeightOf q * c) z ∙ mul-zero (busWeightOf q))
+  way-finish (along {k = k} x w rest link way e) = drive k x w (busWeightOf q * rest) refl link (way-finish way) (ap (λ (c : ℕ). busWeightOf q * c) e ∙ mul-add (busWeightOf q) w rest)
 
   -- One rider more, put in at its position.
   along-more : {l c : ℕ} {route : List ℕ} {position : ℕ → ℕ} → l < 8 → (t : Along network q l route position c) → {cost : ℕ} → Put network q (2 ^ suc l - 1) (q .source) l (position l) (t .steps) cost → Along network q (suc l) route position cost
@@ -50,7 +50,7 @@ module _ {network : List ℕ} {q : Request} where
   along-first : {driving : ℕ} {route : List ℕ} (position walking : ℕ → ℕ) (l : ℕ) → l ≤ 7 → Route network q route driving
       → ((j : ℕ) → j < l → position j ≤ length route)
       → ((j : ℕ) → j < l → RiderWalks network q j (nodeAt network (q .source) route (position j)) (walking j))
-      → Along network q l route position (q .weight * driving + sum l (λ j. riderWeightOf q j * walking j))
+      → Along network q l route position (busWeightOf q * driving + sum l (λ j. riderWeightOf q j * walking j))
   unfolding sum
   along-first {route = route} position walking zero small way within walks =
       record {
@@ -68,26 +68,26 @@ module _ {network : List ℕ} {q : Request} where
   pub price-sum : {route meetings : List ℕ} {price : ℕ} → Price network q route meetings price → SumAt network q route (λ j. getD meetings j 0) price
   price-sum p = record { driving = p .driving; walking = p .walking; drives = p .drives; within = λ j h. p .meets j h .within; walks = λ j h. p .meets j h .walks; adds = p .adds }
 
-  module _ (riders : q .count ≤ 7) where
+  module _ (riders : riderCountOf q ≤ 7) where
     -- The drive steps of a plan are a route. Each rider is met at a position of it, and the plan's cost is the sum taken there.
     pub plan-sum : {steps : List ℕ} {cost : ℕ} → Plan network q steps cost → SumAt network q (drivesOf steps) (λ j. metAt j steps) cost
     plan-sum {steps} f =
-        let small = first-small (q .count) riders in
+        let small = first-small (riderCountOf q) riders in
         let t = driven small f in
-        let (distances, size, walks) = collect (q .count) (λ j d. RiderWalks network q j (nodeAt network (q .source) (drivesOf steps) (metAt j steps)) d) (λ j h. met-walks j small (all-have (q .count) j .1 h) f) in
+        let (distances, size, walks) = collect (riderCountOf q) (λ j d. RiderWalks network q j (nodeAt network (q .source) (drivesOf steps) (metAt j steps)) d) (λ j h. met-walks j small (all-have (riderCountOf q) j .1 h) f) in
         let walking : ℕ → ℕ = λ j. getD distances j 0 in
         record {
           driving = t .driving;
           walking = walking;
           drives = t .way;
-          within = λ j h. met-within j small (all-have (q .count) j .1 h) f;
+          within = λ j h. met-within j small (all-have (riderCountOf q) j .1 h) f;
           walks = walks;
-          adds = met-cost (q .count) walking riders f (t .way) walks;
+          adds = met-cost (riderCountOf q) walking riders f (t .way) walks;
         }
 
     -- Conversely a route with a position for each rider has a plan at the sum taken there.
-    pub sum-plan : {route : List ℕ} {position : ℕ → ℕ} {cost : ℕ} → SumAt network q route position cost → Along network q (q .count) route position cost
-    sum-plan {position = position} s = rw (s .adds) (along-first position (s .walking) (q .count) riders (s .drives) (s .within) (s .walks))
+    pub sum-plan : {route : List ℕ} {position : ℕ → ℕ} {cost : ℕ} → SumAt network q route position cost → Along network q (riderCountOf q) route position cost
+    sum-plan {position = position} s = rw (s .adds) (along-first position (s .walking) (riderCountOf q) riders (s .drives) (s .within) (s .walks))
 
     -- Whatever route is driven, and wherever it meets the riders, it costs no less than the right plan.
     pub right-least : {steps route : List ℕ} {position : ℕ → ℕ} {cost c : ℕ} → RightPlan network q steps cost → SumAt network q route position c → cost ≤ c
@@ -101,8 +101,8 @@ module _ {network : List ℕ} {q : Request} where
     no-drive : NoPlan network q → NoDrive network q
     no-drive none route driving way reach =
         let At : ℕ → ℕ → ℕ → Type 0 = λ j p d. RiderWalks network q j (nodeAt network (q .source) route p) d in
-        let (positions, _, there) = collect (q .count) (λ j p. (p ≤ length route) × ((d : ℕ) × At j p d)) (λ j h. (reach j h .position, (reach j h .within, some-distance network _ sound (value .nodes j h) (reach j h .walk)))) in
-        let (distances, _, walks) = collect (q .count) (λ j. At j (getD positions j 0)) (λ j h. there j h .1) in
+        let (positions, _, there) = collect (riderCountOf q) (λ j p. (p ≤ length route) × ((d : ℕ) × At j p d)) (λ j h. (reach j h .position, (reach j h .within, some-distance network _ sound (value .nodes j h) (reach j h .walk)))) in
+        let (distances, _, walks) = collect (riderCountOf q) (λ j. At j (getD positions j 0)) (λ j h. there j h .1) in
         let a = sum-plan (value .riders) (record { driving = driving; walking = λ j. getD distances j 0; drives = way; within = λ j h. there j h .0; walks = walks; adds = refl }) in
         none (a .steps) _ (a .finishes)
 

@@ -5,7 +5,7 @@ use mathlib.Core.Bool.{cond}
 use mathlib.Core.List.{List, [], _∷_}
 use lib.ListN.{length}
 use lib.Dec.{ltb, eqb}
-use Rattle.rules.specs.Request.{riderWeightOf}
+use Rattle.rules.specs.Request.{riderWeightOf, riderCountOf, busWeightOf}
 use Rattle.rules.specs.Routes.{Route, Reaches, RiderWalks, nodeAt, sum}
 use Rattle.rules.specs.Plans.{Finish}
 use Rattle.rules.specs.declared.Request.{Request}
@@ -31,16 +31,16 @@ positionsFrom zero j steps = []
 positionsFrom (suc count) j steps = metAt j steps ∷ positionsFrom count (suc j) steps
 
 abbrev pub positionsOf : Request → List ℕ → List ℕ
-positionsOf q = positionsFrom (q .count) 0
+positionsOf q = positionsFrom (riderCountOf q) 0
 
 -- A route with a position for each rider, and the sum of the rules of cost, taken at the nodes of these positions. The price is this sum at the meeting positions.
 pub record SumAt (network : List ℕ) (q : Request) (route : List ℕ) (position : ℕ → ℕ) (cost : ℕ) : Type 0 where
   pub driving : ℕ
   pub walking : ℕ → ℕ
   pub drives : Route network q route driving
-  pub within : (j : ℕ) → j < q .count → position j ≤ length route
-  pub walks : (j : ℕ) → j < q .count → RiderWalks network q j (nodeAt network (q .source) route (position j)) (walking j)
-  pub adds : cost ≡ q .weight * driving + sum (q .count) (λ j. riderWeightOf q j * walking j)
+  pub within : (j : ℕ) → j < riderCountOf q → position j ≤ length route
+  pub walks : (j : ℕ) → j < riderCountOf q → RiderWalks network q j (nodeAt network (q .source) route (position j)) (walking j)
+  pub adds : cost ≡ busWeightOf q * driving + sum (riderCountOf q) (λ j. riderWeightOf q j * walking j)
 
 -- Steps that drive the route, meet exactly the riders below `count`, each at its position, and come to the cost. With all riders this is a plan.
 pub record Along (network : List ℕ) (q : Request) (count : ℕ) (route : List ℕ) (position : ℕ → ℕ) (cost : ℕ) : Type 0 where
@@ -51,4 +51,4 @@ pub record Along (network : List ℕ) (q : Request) (count : ℕ) (route : List 
 
 -- No drive from source to target passes, for each rider, a node that the rider can walk to.
 abbrev pub NoDrive : List ℕ → Request → Type 0
-NoDrive network q = (route : List ℕ) (driving : ℕ) → Route network q route driving → ((j : ℕ) → j < q .count → Reaches network q route j) → ⊥
+NoDrive network q = (route : List ℕ) (driving : ℕ) → Route network q route driving → ((j : ℕ) → j < riderCountOf q → Reaches network q route j) → ⊥

@@ -5,7 +5,7 @@ use mathlib.Core.List.{List}
 use native.Mathlib.Omega.{arith}
 use lib.ListN.{length}
 use lib.Seq.{ext-getD}
-use Rattle.rules.specs.Request.{riderWeightOf}
+use Rattle.rules.specs.Request.{riderWeightOf, riderCountOf}
 use Rattle.rules.specs.Routes.{Meeting, Price, sum}
 use Rattle.rules.specs.declared.Request.{Request}
 use Rattle.rules.proofs.WalkLaws.{way-sum}
@@ -25,9 +25,9 @@ sum-same zero f g same = refl
 sum-same (suc count) f g same = ap₂ _+_ (sum-same count f g (λ j h. same j (omega arith))) (same count (omega arith))
 
 -- A route has one price and one list of meeting positions.
-pub price-unique : {network : List ℕ} {q : Request} {route meetings others : List ℕ} {c d : ℕ} → length meetings ≡ q .count → length others ≡ q .count → Price network q route meetings c → Price network q route others d → (c ≡ d) × (meetings ≡ others)
+pub price-unique : {network : List ℕ} {q : Request} {route meetings others : List ℕ} {c d : ℕ} → length meetings ≡ riderCountOf q → length others ≡ riderCountOf q → Price network q route meetings c → Price network q route others d → (c ≡ d) × (meetings ≡ others)
 price-unique {q} m n a b =
-    let walking = sum-same (q .count) (weighed (a .walking)) (weighed (b .walking)) (λ j h. ap (λ (d : ℕ). riderWeightOf q j * d) (meeting-unique (a .meets j h) (b .meets j h) .1)) in
+    let walking = sum-same (riderCountOf q) (weighed (a .walking)) (weighed (b .walking)) (λ j h. ap (λ (d : ℕ). riderWeightOf q j * d) (meeting-unique (a .meets j h) (b .meets j h) .1)) in
     (cc (way-sum (a .drives) (b .drives)), ext-getD 0 _ _ (cc) (λ i h. meeting-unique (a .meets i (rw m at h)) (b .meets i (rw m at h)) .0))
   where
     weighed : (ℕ → ℕ) → ℕ → ℕ

@@ -11,6 +11,7 @@ use Rattle.rules.specs.Rooms.{Kept, Distances, Table}
 use Rattle.rules.specs.declared.Request.{Request}
 use Rattle.rules.proofs.WalkLaws.{holds-distance-unique}
 use Rattle.rules.proofs.PlanLaws.{holds-finish-unique}
+use Rattle.rules.specs.Request.{riderCountOf}
 
 -- Two rooms that agree where they were filled and kept the rest are the same.
 pub kept-unique : {filled : ℕ} {before a b : List ℕ} → Kept filled before a → Kept filled before b → ((i : ℕ) → i < filled → getD a i 0 ≡ getD b i 0) → a ≡ b
@@ -29,8 +30,8 @@ rows-agree rows (suc n) f g same i h = rw (div-add-mod' i (suc n)) at (same (i /
 
 -- The distances room has one final content.
 pub distances-unique : {network : List ℕ} {q : Request} {before a b : List ℕ} → Distances network q before a → Distances network q before b → a ≡ b
-distances-unique {q} d e = kept-unique (d .kept) (e .kept) (rows-agree (q .count) _ _ _ (λ j v h k. holds-distance-unique (d .holds j v h k) (e .holds j v h k)))
+distances-unique {q} d e = kept-unique (d .kept) (e .kept) (rows-agree (riderCountOf q) _ _ _ (λ j v h k. holds-distance-unique (d .holds j v h k) (e .holds j v h k)))
 
 -- The table has one final content.
 pub table-unique : {network : List ℕ} {q : Request} {before a b : List ℕ} → Table network q before a → Table network q before b → a ≡ b
-table-unique {q} d e = kept-unique (d .kept) (e .kept) (rows-agree (2 ^ q .count) _ _ _ (λ j v h k. holds-finish-unique (d .holds j v h k) (e .holds j v h k)))
+table-unique {q} d e = kept-unique (d .kept) (e .kept) (rows-agree (2 ^ riderCountOf q) _ _ _ (λ j v h k. holds-finish-unique (d .holds j v h k) (e .holds j v h k)))

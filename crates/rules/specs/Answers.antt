@@ -7,7 +7,7 @@ use lib.Dec.{ltb, leb}
 use Rattle.rules.specs.Checks.{Check, check, firstOf, differ, beside}
 use Rattle.rules.specs.Numbers.{two}
 use Rattle.rules.specs.Network.{nodeCount, networkChecks}
-use Rattle.rules.specs.Request.{recordChecks, requestValue}
+use Rattle.rules.specs.Request.{recordChecks, requestValue, riderCountOf}
 use Rattle.rules.specs.Walks.{HoldsDistance}
 use Rattle.rules.specs.Routes.{Price, Stranded, routeChecks}
 use Rattle.rules.specs.Plans.{RightPlan, NoPlan}
@@ -70,7 +70,7 @@ pub data Pricing (verdict : Verdict) (network : List ℕ) (q : Request) (route :
   stranded :
       (j : ℕ)
       → verdict ≡ Accepted
-      → j < q .count
+      → j < riderCountOf q
       → Stranded network q route j
       → ((i : ℕ) → i < j → Stranded network q route i → ⊥)
       → answer ≡ refuses 37 j
@@ -80,7 +80,7 @@ pub data Pricing (verdict : Verdict) (network : List ℕ) (q : Request) (route :
       (price : ℕ)
       → verdict ≡ Accepted
       → Price network q route meetings price
-      → length meetings ≡ q .count
+      → length meetings ≡ riderCountOf q
       → answer ≡ gives (price ∷ [])
       → Pricing verdict network q route answer meetings
 
@@ -88,7 +88,7 @@ pub data Pricing (verdict : Verdict) (network : List ℕ) (q : Request) (route :
 abbrev pub priceChecks : List ℕ → List ℕ → List ℕ → ℕ → List Check
 priceChecks network request route room =
     recordChecks network request
-    ++ check 31 0 (ltb room (requestValue request .count))
+    ++ check 31 0 (ltb room (riderCountOf (requestValue request)))
     ∷ routeChecks network (requestValue request) route
 
 -- "it answers the price and writes l 16-bit meeting positions, only on success"
@@ -130,7 +130,7 @@ roomChecks n l distances table steps =
 
 abbrev pub searchChecks : List ℕ → List ℕ → ℕ → ℕ → ℕ → List Check
 searchChecks network request distances table steps =
-    recordChecks network request ++ roomChecks (nodeCount network) (requestValue request .count) distances table steps
+    recordChecks network request ++ roomChecks (nodeCount network) (riderCountOf (requestValue request)) distances table steps
 
 -- the three lent rooms
 pub record Lent : Type 0 where

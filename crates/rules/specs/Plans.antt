@@ -4,7 +4,7 @@ use mathlib.Core.Path.{_≡_}
 use mathlib.Core.Logic.{_⊎_}
 use mathlib.Core.List.{List, [], _∷_}
 use lib.ListN.{length}
-use Rattle.rules.specs.Request.{riderWeightOf}
+use Rattle.rules.specs.Request.{riderWeightOf, riderCountOf, busWeightOf}
 use Rattle.rules.specs.Routes.{Drivable, RiderWalks}
 use Rattle.rules.specs.declared.Request.{Request}
 
@@ -16,7 +16,7 @@ abbrev pub without : ℕ → ℕ → ℕ
 without R j = R - 2 ^ j
 
 abbrev pub allRiders : Request → ℕ
-allRiders q = 2 ^ q .count - 1
+allRiders q = 2 ^ riderCountOf q - 1
 
 -- "Step j below 8 is "rider j is met here"; step 8+k is "drive link k"."
 abbrev pub driveStep : ℕ → ℕ
@@ -42,7 +42,7 @@ pub data Finish (network : List ℕ) (q : Request) : ℕ → ℕ → List ℕ �
       → step ≡ driveStep k
       → Drivable network k v x w
       → Finish network q R x steps rest
-      → c ≡ q .weight * w + rest
+      → c ≡ busWeightOf q * w + rest
       → Finish network q R v (step ∷ steps) c
 
 -- "A plan is a list of 16-bit steps."

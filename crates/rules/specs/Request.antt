@@ -91,11 +91,17 @@ requestValue s =
     record {
       source = source s;
       target = target s;
-      weight = busWeight s;
-      count = riderCount s;
+      «bus_weight» = busWeight s;
+      «rider_count» = riderCount s;
       nodes = sevenPlaces (riderNode s) (riderCount s);
       weights = sevenPlaces (riderWeight s) (riderCount s);
     }
+
+abbrev pub busWeightOf : Request → ℕ
+busWeightOf q = q .«bus_weight»
+
+abbrev pub riderCountOf : Request → ℕ
+riderCountOf q = q .«rider_count»
 
 abbrev pub riderNodeOf : Request → ℕ → ℕ
 riderNodeOf q j = getD (q .nodes) j 0
@@ -105,20 +111,20 @@ riderWeightOf q j = getD (q .weights) j 0
 
 -- a sound request, as its value says it
 pub record SoundValue (n : ℕ) (q : Request) : Type 0 where
-  pub riders : q .count ≤ 7
+  pub riders : riderCountOf q ≤ 7
   pub starts : q .source < n
   pub ends : q .target < n
-  pub nodes : (j : ℕ) → j < q .count → riderNodeOf q j < n
-  pub bus : (1 ≤ q .weight) × (q .weight ≤ 100)
-  pub weights : (j : ℕ) → j < q .count → (1 ≤ riderWeightOf q j) × (riderWeightOf q j ≤ 100)
+  pub nodes : (j : ℕ) → j < riderCountOf q → riderNodeOf q j < n
+  pub bus : (1 ≤ busWeightOf q) × (busWeightOf q ≤ 100)
+  pub weights : (j : ℕ) → j < riderCountOf q → (1 ≤ riderWeightOf q j) × (riderWeightOf q j ≤ 100)
 
 unfoldable pub noRequest : Request
 noRequest =
     record {
       source = 0;
       target = 0;
-      weight = 0;
-      count = 0;
+      «bus_weight» = 0;
+      «rider_count» = 0;
       nodes = sevenPlaces (λ j. 0) 0;
       weights = sevenPlaces (λ j. 0) 0;
     }

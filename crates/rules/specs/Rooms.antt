@@ -6,7 +6,7 @@ use mathlib.Core.List.{List, _++_}
 use lib.ListN.{length, getD, drop}
 use Rattle.rules.specs.Network.{nodeCount}
 use Rattle.rules.specs.Walks.{HoldsDistance}
-use Rattle.rules.specs.Request.{riderNodeOf}
+use Rattle.rules.specs.Request.{riderNodeOf, riderCountOf}
 use Rattle.rules.specs.Plans.{Best, NoFinish}
 use Rattle.rules.specs.declared.Request.{Request}
 
@@ -31,8 +31,8 @@ stepPlaces n l = l + (l + 1) * (n - 1)
 
 -- "Distances (32-bit): place j·n+v is rider j's walking distance to v."
 pub record Distances (network : List ℕ) (q : Request) (before after : List ℕ) : Type 0 where
-  pub holds : (j v : ℕ) → j < q .count → v < nodeCount network → HoldsDistance network (riderNodeOf q j) v (getD after (j * nodeCount network + v) 0)
-  pub kept : Kept (distancePlaces (nodeCount network) (q .count)) before after
+  pub holds : (j v : ℕ) → j < riderCountOf q → v < nodeCount network → HoldsDistance network (riderNodeOf q j) v (getD after (j * nodeCount network + v) 0)
+  pub kept : Kept (distancePlaces (nodeCount network) (riderCountOf q)) before after
 
 -- "place R·n+v is 4,096 × cost + steps of the best finish from v to the target meeting exactly R, best by cost and then steps, or 2^64-1 if there is none"
 abbrev pub noFinish : ℕ
@@ -49,5 +49,5 @@ HoldsFinish network q R v place = HasFinish network q R v place ⊎ (NoFinish ne
 
 -- "Work table (64-bit)"
 pub record Table (network : List ℕ) (q : Request) (before after : List ℕ) : Type 0 where
-  pub holds : (R v : ℕ) → R < 2 ^ q .count → v < nodeCount network → HoldsFinish network q R v (getD after (R * nodeCount network + v) 0)
-  pub kept : Kept (tablePlaces (nodeCount network) (q .count)) before after
+  pub holds : (R v : ℕ) → R < 2 ^ riderCountOf q → v < nodeCount network → HoldsFinish network q R v (getD after (R * nodeCount network + v) 0)
+  pub kept : Kept (tablePlaces (nodeCount network) (riderCountOf q)) before after

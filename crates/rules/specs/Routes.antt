@@ -6,7 +6,7 @@ use lib.ListN.{length, getD}
 use lib.Dec.{ltb, leb}
 use Rattle.rules.specs.Checks.{Check, check, each, differ}
 use Rattle.rules.specs.Network.{linkCount, from, to, drive, closed}
-use Rattle.rules.specs.Request.{riderNodeOf, riderWeightOf}
+use Rattle.rules.specs.Request.{riderNodeOf, riderWeightOf, riderCountOf, busWeightOf}
 use Rattle.rules.specs.Walks.{Leads, Way, Walk, WalkingDistance}
 use Rattle.rules.specs.declared.Request.{Request}
 
@@ -52,8 +52,8 @@ pub record Price (network : List ℕ) (q : Request) (route : List ℕ) (meetings
   pub driving : ℕ
   pub walking : ℕ → ℕ
   pub drives : Route network q route driving
-  pub meets : (j : ℕ) → j < q .count → Meeting network q route j (getD meetings j 0) (walking j)
-  pub adds : price ≡ q .weight * driving + sum (q .count) (λ j. riderWeightOf q j * walking j)
+  pub meets : (j : ℕ) → j < riderCountOf q → Meeting network q route j (getD meetings j 0) (walking j)
+  pub adds : price ≡ busWeightOf q * driving + sum (riderCountOf q) (λ j. riderWeightOf q j * walking j)
 
 -- rider j can walk to no position of the route
 abbrev pub Stranded : List ℕ → Request → List ℕ → ℕ → Type 0

@@ -45,8 +45,8 @@ pub struct NetworkRead {
 pub struct Request {
     pub source: usize,
     pub target: usize,
-    pub weight: u64,
-    pub count: usize,
+    pub bus_weight: u64,
+    pub rider_count: usize,
     pub nodes: [usize; 7],
     pub weights: [u64; 7],
 }

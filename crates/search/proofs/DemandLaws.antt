@@ -7,7 +7,7 @@ use mathlib.Core.List.{List}
 use lib.ListN.{length}
 use Rattle.rules.specs.Checks.{firstOf}
 use Rattle.rules.specs.Network.{nodeCount}
-use Rattle.rules.specs.Request.{recordChecks, requestVerdict, requestValue, SoundValue}
+use Rattle.rules.specs.Request.{recordChecks, requestVerdict, requestValue, SoundValue, riderCountOf}
 use Rattle.rules.specs.Answers.{Outcome, Lent, searchChecks, Searched, refused, hopeless, planned}
 use Rattle.rules.specs.declared.Verdict.the-variants.{Accepted}
 use Rattle.rules.proofs.Clash.{clash}
@@ -26,13 +26,13 @@ module _ (network request : List ℕ) {before : Lent} where
   unfolding requestVerdict
   given-passes given =
       front-passed (recordChecks network request) _ (sound-records network request (given .network-sound) (given .request-sound))
-      ∙ room-enough (nodeCount network) (requestValue request .count) _ _ _ (given .enough .distances) (given .enough .table) (given .enough .steps)
+      ∙ room-enough (nodeCount network) (riderCountOf (requestValue request)) _ _ _ (given .enough .distances) (given .enough .table) (given .enough .steps)
 
   passes-given : firstOf (searchChecks network request (length (before .distances)) (length (before .table)) (length (before .steps))) ≡ Accepted → Given network request before
   unfolding requestVerdict
   passes-given e =
       let (sound, request-sound) = records-sound network request (accepted-front (recordChecks network request) _ e) in
-      record { network-sound = sound; request-sound = request-sound; enough = rooms-accepted (nodeCount network) (requestValue request .count) before (accepted-rest (recordChecks network request) _ e) }
+      record { network-sound = sound; request-sound = request-sound; enough = rooms-accepted (nodeCount network) (riderCountOf (requestValue request)) before (accepted-rest (recordChecks network request) _ e) }
 
   value : Given network request before → SoundValue (nodeCount network) (requestValue request)
   value given = value-sound (nodeCount network) request (given .request-sound)

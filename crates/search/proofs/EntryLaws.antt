@@ -9,7 +9,7 @@ use lib.Pow.{pow-pos}
 use borrow.Author.Tests.{lt-ltb, le-ltb, ltb-false}
 use Rattle.rules.specs.Checks.{refuse, firstOf}
 use Rattle.rules.specs.Network.{nodeCount}
-use Rattle.rules.specs.Request.{recordChecks, requestVerdict, requestValue}
+use Rattle.rules.specs.Request.{recordChecks, requestVerdict, requestValue, riderCountOf}
 use Rattle.rules.specs.Rooms.{distancePlaces, tablePlaces, stepPlaces}
 use Rattle.rules.specs.Answers.{Outcome, refuses, Lent, Enough, Searched, Searching, roomChecks, refused}
 use Rattle.rules.specs.declared.Refusal.{Refusal}
@@ -55,7 +55,7 @@ module _ (network request : List ℕ) (before : Lent) where
   unfolding requestVerdict
   records-refused r is told = refused r (front-refused (recordChecks network request) _ r (sym is ∙ told)) refl refl
 
-  module _ (accepted : requestVerdict network request ≡ Accepted) {v : Verdict} (rooms : v ≡ firstOf (roomChecks (nodeCount network) (requestValue request .count) (length (before .distances)) (length (before .table)) (length (before .steps)))) where
+  module _ (accepted : requestVerdict network request ≡ Accepted) {v : Verdict} (rooms : v ≡ firstOf (roomChecks (nodeCount network) (riderCountOf (requestValue request)) (length (before .distances)) (length (before .table)) (length (before .steps)))) where
     pub rooms-refused : (r : Refusal) → v ≡ NotAccepted r → Searched network request before before (refuses (r .number) (r .place))
     unfolding requestVerdict
     rooms-refused r told = refused r (front-passed (recordChecks network request) _ accepted ∙ sym rooms ∙ told) refl refl

@@ -10,6 +10,7 @@ use Rattle.rules.specs.Rooms.{noFinish, Distances, Table}
 use Rattle.rules.specs.Answers.{gives, refuses, Lent, Searching, hopeless, planned}
 use Rattle.rules.specs.declared.Request.{Request}
 use Rattle.rules.specs.declared.Verdict.the-variants.{Accepted}
+use Rattle.rules.specs.Request.{riderCountOf}
 use Rattle.finish.proofs.Bounds.{holds-least, unpacks}
 use Rattle.table.specs.Filling.{Ready}
 use Rattle.table.proofs.DistanceLaws.{distances-walked}
@@ -20,8 +21,8 @@ pub ready : {network : List ℕ} {q : Request} {before : Lent} → Roomy network
 ready rooms = record { sound = rooms .sound; request = rooms .request; places = rooms .enough .distances }
 
 module _ {network : List ℕ} {q : Request} {d₀ d t₀ t s₀ : List ℕ} (rooms : Roomy network q (lent d₀ t₀ s₀)) (walked : Distances network q d₀ d) (table : Table network q t₀ t) where
-  pub everybody : allRiders q < 2 ^ q .count
-  everybody = omega (arith, pow-pos (q .count))
+  pub everybody : allRiders q < 2 ^ riderCountOf q
+  everybody = omega (arith, pow-pos (riderCountOf q))
 
   pub known : Known network q d t
   known =

@@ -10,7 +10,7 @@ use lib.Dec.{eqb}
 use borrow.Author.Tests.{eq-eqb, ne-eqb, eqb-true, eqb-false}
 use lib.Count.{ones, trailingZeros}
 use Rattle.rules.specs.Network.{SoundNetwork, nodeCount, linkCount, to}
-use Rattle.rules.specs.Request.{riderWeightOf}
+use Rattle.rules.specs.Request.{riderWeightOf, riderCountOf, busWeightOf}
 use Rattle.rules.specs.Plans.{Has, without}
 use Rattle.rules.specs.declared.Request.{Request}
 use Rattle.finish.specs.Sets.{Lowest}
@@ -36,8 +36,8 @@ module _ {network : List ℕ} {q : Request} {distances table : List ℕ} {R v : 
       pub of-all : Has R j
       of-all = so .of j (low .has)
 
-      pub rider-below : j < q .count
-      rider-below = has-below R j (q .count) (at .set) of-all
+      pub rider-below : j < riderCountOf q
+      rider-below = has-below R j (riderCountOf q) (at .set) of-all
 
       pub trying-more : (valueAt network table R v ≡ meetingStep (riderWeightOf q j) (getD distances (j * nodeCount network + v) 0) + valueAt network table (without R j) v → ⊥) → Trying network q table R v (without left j)
       trying-more loose =
@@ -75,7 +75,7 @@ module _ {network : List ℕ} {q : Request} {distances table : List ℕ} {R v : 
   passing-none = record { within = omega arith; passed = λ i S x h. absurd (omega arith) }
 
   module _ (k : ℕ) (so : Passing network q table R v k) (exists : k < linkCount network) where
-    pub passing-more : (valueAt network table R v ≡ drivingStep network (q .weight) v k + valueAt network table R (to network k) → ⊥) → Passing network q table R v (k + 1)
+    pub passing-more : (valueAt network table R v ≡ drivingStep network (busWeightOf q) v k + valueAt network table R (to network k) → ⊥) → Passing network q table R v (k + 1)
     passing-more loose =
         record {
           within = omega arith;
@@ -85,7 +85,7 @@ module _ {network : List ℕ} {q : Request} {distances table : List ℕ} {R v : 
           ];
         }
 
-    pub passing-found : NoMeeting network q table R v → valueAt network table R v ≡ drivingStep network (q .weight) v k + valueAt network table R (to network k) → IsNext network q table R v (record { step = 8 + k; riders = R; node = to network k })
+    pub passing-found : NoMeeting network q table R v → valueAt network table R v ≡ drivingStep network (busWeightOf q) v k + valueAt network table R (to network k) → IsNext network q table R v (record { step = 8 + k; riders = R; node = to network k })
     passing-found none e =
         record {
           tight = driving-tight at k exists e;
@@ -130,7 +130,7 @@ module _ {here step behind H S B : ℕ} {r : Bool} (test : r ≡ eqb here (step 
   not-made-up e g = eqb-false here (step + behind) (sym test ∙ e) (omega arith)
 
 -- what reading a value asks
-pub value-ready : {network : List ℕ} {q : Request} {distances table : List ℕ} → Known network q distances table → {R v : ℕ} → R < 2 ^ q .count → v < nodeCount network → SoundNetwork network × (R < 128) × (v < nodeCount network) × (valuePlace network R v < length table)
+pub value-ready : {network : List ℕ} {q : Request} {distances table : List ℕ} → Known network q distances table → {R v : ℕ} → R < 2 ^ riderCountOf q → v < nodeCount network → SoundNetwork network × (R < 128) × (v < nodeCount network) × (valuePlace network R v < length table)
 value-ready known small h = (
   known .walked .ready .sound,
   few-sets (known .walked .ready .request .riders) small,
@@ -143,5 +143,5 @@ pub step-small : {network : List ℕ} {q : Request} {distances table : List ℕ}
 step-small {network} {q} {table = table} {R} {v} {step} {S} {x} at so = go (so .leads)
   where
     go : {cost : ℕ} → Step network q R v step S x cost → step < 2056
-    go (meets d has walks left stays costs) = omega (arith, has-below R step (q .count) (at .set) has, at .known .walked .ready .request .riders)
+    go (meets d has walks left stays costs) = omega (arith, has-below R step (riderCountOf q) (at .set) has, at .known .walked .ready .request .riders)
     go (drives k w is leads stays costs) = omega (arith, leads .exists, at .known .walked .ready .sound .links)

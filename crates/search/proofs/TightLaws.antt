@@ -8,7 +8,7 @@ use mathlib.Core.List.{List}
 use lib.ListN.{getD}
 use borrow.Author.Tests.{eq-eqb, ne-eqb, le-leb, lt-leb}
 use Rattle.rules.specs.Network.{nodeCount, linkCount, from, to, drive, closed}
-use Rattle.rules.specs.Request.{riderNodeOf, riderWeightOf}
+use Rattle.rules.specs.Request.{riderNodeOf, riderWeightOf, riderCountOf, busWeightOf}
 use Rattle.rules.specs.Walks.{HoldsDistance, noDistance}
 use Rattle.rules.specs.Plans.{Has, without}
 use Rattle.rules.specs.Rooms.{noFinish}
@@ -37,8 +37,8 @@ open-drive network weight v k e h = simp (eq-eqb _ _ e, lt-leb _ _ h)
 
 module _ {network : List ℕ} {q : Request} {distances table : List ℕ} {R v : ℕ} (at : Stands network q distances table R v) where
   module _ (j : ℕ) (has : Has R j) where
-    member : j < q .count
-    member = has-below R j (q .count) (at .set) has
+    member : j < riderCountOf q
+    member = has-below R j (riderCountOf q) (at .set) has
 
     holds : HoldsDistance network (riderNodeOf q j) v (getD distances (j * nodeCount network + v) 0)
     holds = at .known .walked .walks j v member (at .node)
@@ -67,27 +67,27 @@ module _ {network : List ℕ} {q : Request} {distances table : List ℕ} {R v : 
       go (drives k w step leads stays costs) tight = absurd (omega arith)
 
   -- a drive that makes up the value is tight
-  pub driving-tight : (k : ℕ) → k < linkCount network → valueAt network table R v ≡ drivingStep network (q .weight) v k + valueAt network table R (to network k) → Tight network q (valueAt network table) R v (8 + k) R (to network k)
+  pub driving-tight : (k : ℕ) → k < linkCount network → valueAt network table R v ≡ drivingStep network (busWeightOf q) v k + valueAt network table R (to network k) → Tight network q (valueAt network table) R v (8 + k) R (to network k)
   driving-tight k exists e = elim (ℕ-discrete (from network k) v) [
-    | no away ↦ absurd (omega (arith, at .finite, not-driven network (q .weight) v k away))
+    | no away ↦ absurd (omega (arith, at .finite, not-driven network (busWeightOf q) v k away))
     | yes here ↦ elim (decLt (drive network k) closed) [
-      | no shut ↦ absurd (omega (arith, at .finite, closed-drive network (q .weight) v k here (omega arith)))
+      | no shut ↦ absurd (omega (arith, at .finite, closed-drive network (busWeightOf q) v k here (omega arith)))
       | yes drivable ↦
           (record {
             cost = _;
             leads = drives k (drive network k) refl (record { exists = exists; starts = here; ends = refl; costs = refl; opened = drivable }) refl refl;
-            tight = e ∙ rw (← open-drive network (q .weight) v k here drivable);
+            tight = e ∙ rw (← open-drive network (busWeightOf q) v k here drivable);
           })
     ]
   ]
 
   -- a step of 8 or more that is tight is such a drive
-  pub tight-drive : {k S x : ℕ} → Tight network q (valueAt network table) R v (8 + k) S x → (k < linkCount network) × (valueAt network table R v ≡ drivingStep network (q .weight) v k + valueAt network table R (to network k))
+  pub tight-drive : {k S x : ℕ} → Tight network q (valueAt network table) R v (8 + k) S x → (k < linkCount network) × (valueAt network table R v ≡ drivingStep network (busWeightOf q) v k + valueAt network table R (to network k))
   tight-drive {k} {S} {x} so = go (so .leads) (so .tight)
     where
-      go : {cost : ℕ} → Step network q R v (8 + k) S x cost → valueAt network table R v ≡ packedStep cost + valueAt network table S x → (k < linkCount network) × (valueAt network table R v ≡ drivingStep network (q .weight) v k + valueAt network table R (to network k))
+      go : {cost : ℕ} → Step network q R v (8 + k) S x cost → valueAt network table R v ≡ packedStep cost + valueAt network table S x → (k < linkCount network) × (valueAt network table R v ≡ drivingStep network (busWeightOf q) v k + valueAt network table R (to network k))
       go (meets d has walks left stays costs) tight = absurd (omega (arith, member (8 + k) has, at .known .walked .ready .request .riders))
       go (drives i w step leads stays costs) tight =
           let same : i ≡ k = omega arith in
           let link = rw same at leads in
-          (link .exists, rw (stays, costs, ← link .costs, ← link .ends, open-drive network (q .weight) v k (link .starts) (rw (← link .costs) at (link .opened))) at tight)
+          (link .exists, rw (stays, costs, ← link .costs, ← link .ends, open-drive network (busWeightOf q) v k (link .starts) (rw (← link .costs) at (link .opened))) at tight)

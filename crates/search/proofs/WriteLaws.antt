@@ -10,7 +10,7 @@ use lib.Seq.{take-suc-set, drop-set-lt, length-take-le, drop-drop}
 use lib.Count.{ones-ones}
 use lib.Pow.{pow-pos}
 use Rattle.rules.specs.Network.{SoundNetwork, nodeCount}
-use Rattle.rules.specs.Request.{SoundValue}
+use Rattle.rules.specs.Request.{SoundValue, riderCountOf}
 use Rattle.rules.specs.Plans.{allRiders}
 use Rattle.rules.specs.declared.Request.{Request}
 use Rattle.finish.proofs.Bounds.{least-holds, best-bounded, unpacks}
@@ -25,14 +25,14 @@ module _ {network : List ℕ} {q : Request} {distances table before : List ℕ} 
   value : SoundValue (nodeCount network) q
   value = plans .known .walked .ready .request
 
-  all-small : allRiders q < 2 ^ q .count
-  all-small = omega (arith, pow-pos (q .count))
+  all-small : allRiders q < 2 ^ riderCountOf q
+  all-small = omega (arith, pow-pos (riderCountOf q))
 
   -- the plan has no more steps than there is room
   plan-room : planValue q (valueAt network table) % 4096 ≤ length before
   plan-room =
       ⊎-elim
-      (λ has. omega (arith, plans .room, rw (ones-ones (q .count)) at (best-bounded sound value all-small (value .starts) (has .best) .short), unpacks sound value all-small (value .starts) (has .best) (has .packs) .remainder))
+      (λ has. omega (arith, plans .room, rw (ones-ones (riderCountOf q)) at (best-bounded sound value all-small (value .starts) (has .best) .short), unpacks sound value all-small (value .starts) (has .best) (has .packs) .remainder))
       (λ none. absurd (omega (arith, plans .finite)))
       (least-holds sound value all-small (value .starts) (plans .known .filled (allRiders q) (q .source) all-small (value .starts)))
 

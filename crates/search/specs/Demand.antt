@@ -5,7 +5,7 @@ use mathlib.Core.Logic.{_⊎_, _↔_}
 use mathlib.Core.List.{List, [], _∷_}
 use lib.ListN.{length}
 use Rattle.rules.specs.Network.{SoundNetwork, nodeCount}
-use Rattle.rules.specs.Request.{SoundRequest, requestValue}
+use Rattle.rules.specs.Request.{SoundRequest, requestValue, riderCountOf}
 use Rattle.rules.specs.Routes.{Price}
 use Rattle.rules.specs.Plans.{RightPlan}
 use Rattle.rules.specs.Rooms.{Written}
@@ -17,7 +17,7 @@ use Rattle.right.specs.Steps.{drivesOf, positionsOf, NoDrive}
 pub record Given (network request : List ℕ) (before : Lent) : Type 0 where
   pub network-sound : SoundNetwork network
   pub request-sound : SoundRequest (nodeCount network) request
-  pub enough : Enough (nodeCount network) (requestValue request .count) before
+  pub enough : Enough (nodeCount network) (riderCountOf (requestValue request)) before
 
 -- The plan that an answer stands for.
 pub record AnsweredPlan (network : List ℕ) (q : Request) (before after : Lent) (cost count : ℕ) : Type 0 where

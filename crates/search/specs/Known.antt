@@ -10,6 +10,7 @@ use Rattle.rules.specs.Network.{nodeCount, linkCount, from, drive, closed}
 use Rattle.rules.specs.Plans.{Has, RightPlan}
 use Rattle.rules.specs.Rooms.{Written, tablePlaces, stepPlaces, noFinish}
 use Rattle.rules.specs.declared.Request.{Request}
+use Rattle.rules.specs.Request.{riderCountOf}
 use Rattle.finish.specs.Packed.{packedStep}
 use Rattle.right.specs.Reading.{Tight, Next, Reading, planValue}
 use Rattle.table.specs.Filling.{KnownDistances, FilledBelow}
@@ -25,13 +26,13 @@ valueAt network table R v = getD table (valuePlace network R v) 0
 -- Sound records, the walking distances, and the whole table.
 pub record Known (network : List ℕ) (q : Request) (distances table : List ℕ) : Type 0 where
   pub walked : KnownDistances network q distances
-  pub places : tablePlaces (nodeCount network) (q .count) ≤ length table
-  pub filled : FilledBelow network q (2 ^ q .count) table
+  pub places : tablePlaces (nodeCount network) (riderCountOf q) ≤ length table
+  pub filled : FilledBelow network q (2 ^ riderCountOf q) table
 
 -- The bus stands at v with R still to be met, and a finish is known.
 pub record Stands (network : List ℕ) (q : Request) (distances table : List ℕ) (R v : ℕ) : Type 0 where
   pub known : Known network q distances table
-  pub set : R < 2 ^ q .count
+  pub set : R < 2 ^ riderCountOf q
   pub node : v < nodeCount network
   pub finite : valueAt network table R v < noFinish
 
@@ -73,7 +74,7 @@ pub record Writing (network : List ℕ) (q : Request) (table before : List ℕ) 
 pub record Planning (network : List ℕ) (q : Request) (distances table steps : List ℕ) : Type 0 where
   pub known : Known network q distances table
   pub finite : planValue q (valueAt network table) < noFinish
-  pub room : stepPlaces (nodeCount network) (q .count) ≤ length steps
+  pub room : stepPlaces (nodeCount network) (riderCountOf q) ≤ length steps
 
 -- The right plan stands at the start of the room; its cost and its number of steps are what the table packs.
 pub record PlanWritten (network : List ℕ) (q : Request) (table before after : List ℕ) : Type 0 where

@@ -2,7 +2,7 @@
 use Prim.Native.Nat.{ℕ}
 use mathlib.Core.List.{List}
 use Rattle.rules.specs.Network.{SoundNetwork, nodeCount}
-use Rattle.rules.specs.Request.{SoundValue}
+use Rattle.rules.specs.Request.{SoundValue, riderCountOf}
 use Rattle.rules.specs.Answers.{Lent, Enough}
 use Rattle.rules.specs.declared.Request.{Request}
 
@@ -13,4 +13,4 @@ lent distances table steps = record { distances = distances; table = table; step
 pub record Roomy (network : List ℕ) (q : Request) (before : Lent) : Type 0 where
   pub sound : SoundNetwork network
   pub request : SoundValue (nodeCount network) q
-  pub enough : Enough (nodeCount network) (q .count) before
+  pub enough : Enough (nodeCount network) (riderCountOf q) before

@@ -25,7 +25,12 @@ pub fn plan(
 {
     fill_distances(network, q, distances);
     fill_table(network, q, distances, table);
-    let best = value(network, table, rider_bit(q.count as u32) - 1, q.source);
+    let best = value(
+        network,
+        table,
+        rider_bit(q.rider_count as u32) - 1,
+        q.source,
+    );
     if best == NO_FINISH {
         return Planned::Refused(Refusal {
             number: 24,

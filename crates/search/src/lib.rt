@@ -33,7 +33,7 @@ pub fn search(
     }
     let q = read.request;
     let n = node_count(network);
-    let rooms = rooms_verdict(n, q.count, distances.len(), table.len(), steps.len());
+    let rooms = rooms_verdict(n, q.rider_count, distances.len(), table.len(), steps.len());
     if let Verdict::Refused(r) = rooms {
         return Planned::Refused(r);
     }

@@ -109,7 +109,7 @@ fn next_drive(
     let mut k = 0;
     while k < m {
         let node = to(network, k);
-        let step = driving_step(network, q.weight, v, k);
+        let step = driving_step(network, q.bus_weight, v, k);
         let behind = value(network, table, riders, node);
         if makes_up(here, step, behind) {
             return Move {
@@ -151,7 +151,7 @@ pub fn read_plan(network: &[u8], q: Request, distances: &[u32], table: &[u64], s
     requires { ⌜ Planning (now network) q (now distances) (now table) (now steps) ⌝ }
     ensures { λ _. ⌜ PlanWritten (now (network .entry)) q (now (table .entry)) (now (steps .entry)) (now (steps .exit)) ⌝ }
 {
-    let mut riders = rider_bit(q.count as u32) - 1;
+    let mut riders = rider_bit(q.rider_count as u32) - 1;
     let mut v = q.source;
     let mut i = 0;
     while value(network, table, riders, v) != 0 {

@@ -5,7 +5,7 @@ use mathlib.Core.List.{List}
 use native.Mathlib.Omega.{arith}
 use lib.ListN.{length}
 use Rattle.rules.specs.Network.{nodeCount}
-use Rattle.rules.specs.Request.{riderNodeOf}
+use Rattle.rules.specs.Request.{riderNodeOf, riderCountOf}
 use Rattle.rules.specs.Walks.{HoldsDistance}
 use Rattle.rules.specs.Rooms.{Distances}
 use Rattle.rules.specs.declared.Request.{Request}
@@ -20,17 +20,17 @@ module _ {network : List ℕ} {q : Request} {before : List ℕ} where
 
   module _ (ready : Ready network q before) {j : ℕ} {t : List ℕ} (so : WalkedRows network q j before t) where
     -- the next row is there
-    pub row-fits : j < q .count → Lies (j * nodeCount network) (nodeCount network) (length t)
+    pub row-fits : j < riderCountOf q → Lies (j * nodeCount network) (nodeCount network) (length t)
     row-fits h =
         record {
           low = row-start (nodeCount network) j (ready .sound .nodes) (omega (arith, ready .request .riders));
           within = omega (arith, ready .places, row-within (nodeCount network) h, so .kept .size);
         }
 
-    pub row-lent : j < q .count → LentRoom network (rowOf (nodeCount network) j t)
+    pub row-lent : j < riderCountOf q → LentRoom network (rowOf (nodeCount network) j t)
     row-lent h = lent-row t j (ready .sound) (row-fits h .within)
 
-    pub walked-more : {part : List ℕ} → j < q .count → Row network (riderNodeOf q j) (rowOf (nodeCount network) j t) part → WalkedRows network q (j + 1) before (putRow (nodeCount network) j t part)
+    pub walked-more : {part : List ℕ} → j < riderCountOf q → Row network (riderNodeOf q j) (rowOf (nodeCount network) j t) part → WalkedRows network q (j + 1) before (putRow (nodeCount network) j t part)
     walked-more {part} h row =
         let fits = row-fits h .within in
         record {
@@ -40,8 +40,8 @@ module _ {network : List ℕ} {q : Request} {before : List ℕ} where
         }
 
     -- the last row was filled
-    pub walked-all : q .count ≤ j → Distances network q before t
-    walked-all all = let e : j ≡ q .count = omega (arith, so .within) in record { holds = rw e at (so .walks); kept = so .kept }
+    pub walked-all : riderCountOf q ≤ j → Distances network q before t
+    walked-all all = let e : j ≡ riderCountOf q = omega (arith, so .within) in record { holds = rw e at (so .walks); kept = so .kept }
 
 -- what the work table is filled from
 pub distances-walked : {network : List ℕ} {q : Request} {before after : List ℕ} → Ready network q before → Distances network q before after → KnownDistances network q after

@@ -10,7 +10,7 @@ use lib.Count.{ones, trailingZeros}
 use lib.ListN.{length, getD}
 use borrow.Author.Tests.{eq-eqb, ne-eqb}
 use Rattle.rules.specs.Network.{SoundNetwork, nodeCount}
-use Rattle.rules.specs.Request.{riderNodeOf, riderWeightOf}
+use Rattle.rules.specs.Request.{riderNodeOf, riderWeightOf, riderCountOf}
 use Rattle.rules.specs.Walks.{HoldsDistance, noDistance}
 use Rattle.rules.specs.Plans.{Has, without}
 use Rattle.rules.specs.Rooms.{noFinish}
@@ -43,13 +43,13 @@ rider-seen {q = q} {d = d} {rest} {t} j more sound h has walks l s = elim (ℕ-d
 ]
 
 -- With no rider to meet, a finish ends at the target.
-pub arrived : {network : List ℕ} {q : Request} {R v value : ℕ} → R < 2 ^ q .count → ones R ≡ 0 → (v ≡ q .target → value ≡ 0) → (v ≢ q .target → value ≡ noFinish) → Least noFinish (Ends network q R v) value
-arrived {q = q} {R} small none here there = rw (nobody-empty (q .count) R small none) (arrived-least here there)
+pub arrived : {network : List ℕ} {q : Request} {R v value : ℕ} → R < 2 ^ riderCountOf q → ones R ≡ 0 → (v ≡ q .target → value ≡ 0) → (v ≢ q .target → value ≡ noFinish) → Least noFinish (Ends network q R v) value
+arrived {q = q} {R} small none here there = rw (nobody-empty (riderCountOf q) R small none) (arrived-least here there)
 
 -- Rider j is left, so it is a rider of the request, and its bit is in the set and in what is left of it.
 pub record Next (q : Request) (R left j : ℕ) : Type 0 where
   pub has : Has left j
-  pub below : j < q .count
+  pub below : j < riderCountOf q
   pub few : j < 7
   pub within : 2 ^ j ≤ left
   pub member : 2 ^ j ≤ R
@@ -61,7 +61,7 @@ module _ {network : List ℕ} {q : Request} {distances table : List ℕ} {R v : 
   -- each place up to row R is there
   pub place-there : (S : ℕ) → S ≤ R → (S < 128) × (S * nodeCount network + v < length table)
   place-there S low =
-      let set : S < 2 ^ q .count = omega (arith, room .row) in
+      let set : S < 2 ^ riderCountOf q = omega (arith, room .row) in
       (few-sets (room .walked .ready .request .riders) set, omega (arith, place-within set h, room .places))
 
   module _ {left least : ℕ} (so : Seeing network q R v left least) where
@@ -69,7 +69,7 @@ module _ {network : List ℕ} {q : Request} {distances table : List ℕ} {R v : 
     next-rider some =
         let low = lowest-rider 32 left (somebody left some) (omega (arith, so .within, few-sets (room .walked .ready .request .riders) (room .row))) in
         let met = so .of _ (low .has) in
-        let below = has-below R _ (q .count) (room .row) met in
+        let below = has-below R _ (riderCountOf q) (room .row) met in
         record {
           has = low .has;
           below = below;
@@ -84,7 +84,7 @@ module _ {network : List ℕ} {q : Request} {distances table : List ℕ} {R v : 
         record {
           within = omega (arith, so .within);
           of = λ i other. so .of i (without-others left j has i .0 other .0);
-          least = rider-seen j (outside-more left j has) (room .walked .ready .sound) h met (room .walked .walks j v (has-below R j (q .count) (room .row) met) h) (room .below (without R j) v (without-less R j met) h) (so .least);
+          least = rider-seen j (outside-more left j has) (room .walked .ready .sound) h met (room .walked .walks j v (has-below R j (riderCountOf q) (room .row) met) h) (room .below (without R j) v (without-less R j met) h) (so .least);
         }
 
   pub seeing-all : {left least : ℕ} → 0 < R → ones left ≡ 0 → Seeing network q R v left least → Least noFinish (Ends network q R v) least

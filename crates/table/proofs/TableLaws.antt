@@ -10,6 +10,7 @@ use borrow.Author.Count.{below-more}
 use Rattle.rules.specs.Network.{nodeCount}
 use Rattle.rules.specs.Rooms.{Table, noFinish, tablePlaces}
 use Rattle.rules.specs.declared.Request.{Request}
+use Rattle.rules.specs.Request.{riderCountOf, busWeightOf}
 use Rattle.least.specs.Least.{Least}
 use Rattle.least.specs.Spread.{Spread}
 use Rattle.finish.specs.Packed.{Packed, DriveArc, Ends}
@@ -41,7 +42,7 @@ module _ {network : List ℕ} {q : Request} {distances before : List ℕ} {R : �
     -- the start at one node more
     pub started-more : {place value : ℕ} → place ≡ R * nodeCount network + x → x < nodeCount network → Least noFinish (Ends network q R x) value → Started network q R (x + 1) before (set t place value)
     started-more {place} {value} reads-place h least =
-        let there : place < tablePlaces (nodeCount network) (q .count) = omega (arith, place-within (room .row) h) in
+        let there : place < tablePlaces (nodeCount network) (riderCountOf q) = omega (arith, place-within (room .row) h) in
         record {
           within = omega arith;
           filled = record {
@@ -63,11 +64,11 @@ module _ {network : List ℕ} {q : Request} {distances before : List ℕ} {R : �
           within = omega (arith, room-after so .places, row-within (nodeCount network) (room .row));
         }
 
-    pub row-lent : LentRow network (q .weight) (rowOf (nodeCount network) R t)
+    pub row-lent : LentRow network (busWeightOf q) (rowOf (nodeCount network) R t)
     row-lent = record { lent = lent-row t R (room .walked .ready .sound) (row-there .within); light = room .walked .ready .request .bus .1 }
 
     -- what spreads from the starts fills the row
-    pub row-filled : {part : List ℕ} → Spread noFinish (nodeCount network) (DriveArc network (q .weight)) (rowOf (nodeCount network) R t) part → Filled network q (R + 1) before (putRow (nodeCount network) R t part)
+    pub row-filled : {part : List ℕ} → Spread noFinish (nodeCount network) (DriveArc network (busWeightOf q)) (rowOf (nodeCount network) R t) part → Filled network q (R + 1) before (putRow (nodeCount network) R t part)
     row-filled {part} spread =
         record {
           within = omega (arith, room .row);
@@ -83,11 +84,11 @@ module _ {network : List ℕ} {q : Request} {distances before : List ℕ} (walke
   filled-none = record { within = omega arith; below = λ S v h. absurd (omega arith); kept = record { size = refl; later = refl } }
 
   module _ {R : ℕ} {t : List ℕ} (so : Filled network q R before t) where
-    pub next-room : tablePlaces (nodeCount network) (q .count) ≤ length before → R < 2 ^ q .count → RowReady network q distances R t
+    pub next-room : tablePlaces (nodeCount network) (riderCountOf q) ≤ length before → R < 2 ^ riderCountOf q → RowReady network q distances R t
     next-room places h = record { walked = walked; places = omega (arith, so .kept .size); row = h; below = so .below }
 
     pub filled-more : {after : List ℕ} → Filled network q (R + 1) t after → Filled network q (R + 1) before after
     filled-more more = record { within = more .within; below = more .below; kept = kept-then (so .kept) (more .kept) }
 
-  pub filled-all : {t : List ℕ} → Filled network q (2 ^ q .count) before t → Table network q before t
+  pub filled-all : {t : List ℕ} → Filled network q (2 ^ riderCountOf q) before t → Table network q before t
   filled-all so = record { holds = λ R v h g. least-holds (walked .ready .sound) (walked .ready .request) h g (so .below R v h g); kept = so .kept }

@@ -5,7 +5,7 @@ use mathlib.Core.List.{List}
 use lib.ListN.{length, getD}
 use lib.Dec.{eqb}
 use Rattle.rules.specs.Network.{SoundNetwork, nodeCount}
-use Rattle.rules.specs.Request.{SoundValue, riderNodeOf}
+use Rattle.rules.specs.Request.{SoundValue, riderNodeOf, riderCountOf}
 use Rattle.rules.specs.Walks.{HoldsDistance, noDistance}
 use Rattle.rules.specs.Plans.{Has}
 use Rattle.rules.specs.Rooms.{Kept, distancePlaces, tablePlaces, noFinish}
@@ -18,7 +18,7 @@ use Rattle.finish.specs.Packed.{packedStep, Packed, Ends}
 pub record Ready (network : List ℕ) (q : Request) (distances : List ℕ) : Type 0 where
   pub sound : SoundNetwork network
   pub request : SoundValue (nodeCount network) q
-  pub places : distancePlaces (nodeCount network) (q .count) ≤ length distances
+  pub places : distancePlaces (nodeCount network) (riderCountOf q) ≤ length distances
 
 -- The rows of the riders below j hold their walking distances.
 abbrev pub WalkedBelow : List ℕ → Request → ℕ → List ℕ → Type 0
@@ -26,14 +26,14 @@ WalkedBelow network q j distances = (i v : ℕ) → i < j → v < nodeCount netw
 
 -- The rows of the riders below j are filled; what lies beyond all rows is kept.
 pub record WalkedRows (network : List ℕ) (q : Request) (j : ℕ) (before after : List ℕ) : Type 0 where
-  pub within : j ≤ q .count
+  pub within : j ≤ riderCountOf q
   pub walks : WalkedBelow network q j after
-  pub kept : Kept (distancePlaces (nodeCount network) (q .count)) before after
+  pub kept : Kept (distancePlaces (nodeCount network) (riderCountOf q)) before after
 
 -- Sound records, and the riders' walking distances.
 pub record KnownDistances (network : List ℕ) (q : Request) (distances : List ℕ) : Type 0 where
   pub ready : Ready network q distances
-  pub walks : WalkedBelow network q (q .count) distances
+  pub walks : WalkedBelow network q (riderCountOf q) distances
 
 -- What it takes to meet a rider of that weight who walks so far, or none where the rider cannot walk there.
 unfoldable pub meetingStep : ℕ → ℕ → ℕ
@@ -46,8 +46,8 @@ FilledBelow network q R table = (S v : ℕ) → S < R → v < nodeCount network 
 -- What row R is filled from: the walking distances and the rows below it.
 pub record RowReady (network : List ℕ) (q : Request) (distances : List ℕ) (R : ℕ) (table : List ℕ) : Type 0 where
   pub walked : KnownDistances network q distances
-  pub places : tablePlaces (nodeCount network) (q .count) ≤ length table
-  pub row : R < 2 ^ q .count
+  pub places : tablePlaces (nodeCount network) (riderCountOf q) ≤ length table
+  pub row : R < 2 ^ riderCountOf q
   pub below : FilledBelow network q R table
 
 -- Of the riders of R, those of `left` are not seen yet; `value` is the least that it takes at v to meet one of the others, and then to finish.
@@ -58,9 +58,9 @@ pub record Seeing (network : List ℕ) (q : Request) (R v left value : ℕ) : Ty
 
 -- The rows below R are filled; what lies beyond the table is kept.
 pub record Filled (network : List ℕ) (q : Request) (R : ℕ) (before after : List ℕ) : Type 0 where
-  pub within : R ≤ 2 ^ q .count
+  pub within : R ≤ 2 ^ riderCountOf q
   pub below : FilledBelow network q R after
-  pub kept : Kept (tablePlaces (nodeCount network) (q .count)) before after
+  pub kept : Kept (tablePlaces (nodeCount network) (riderCountOf q)) before after
 
 -- Row R holds its starts at the nodes below x, and the rows below R are filled.
 pub record Started (network : List ℕ) (q : Request) (R x : ℕ) (before after : List ℕ) : Type 0 where

@@ -13,7 +13,7 @@ pub fn fill_distances(network: &[u8], q: Request, distances: &mut [u32])
     let n = node_count(network);
     let nodes = q.nodes;
     let mut j = 0;
-    while j < q.count {
+    while j < q.rider_count {
         let a = j * n;
         let b = a + n;
         walk_from(network, nodes[j], &mut distances[a..b]);

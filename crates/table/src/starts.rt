@@ -9,7 +9,7 @@ ghost use Prim.Native.Nat.{_+_, _*_, _<_, min};
 ghost use mathlib.Core.Path.{_≡_};
 ghost use lib.ListN.{getD};
 ghost use Rattle.rules.specs.Network.{nodeCount};
-ghost use Rattle.rules.specs.Request.{riderWeightOf};
+ghost use Rattle.rules.specs.Request.{riderWeightOf, riderCountOf};
 ghost use Rattle.rules.specs.Rooms.{noFinish};
 ghost use Rattle.least.specs.Least.{Least};
 ghost use Rattle.finish.specs.Packed.{Ends};
@@ -77,7 +77,7 @@ fn least_meeting(
 
 // What the step takes that meets rider j at v, or 2^64-1 where the rider cannot walk there.
 pub fn meeting_step(network: &[u8], q: Request, distances: &[u32], j: usize, v: usize) -> u64
-    requires { ⌜ (j < q .count) × (v < nodeCount (now network)) × Ready (now network) q (now distances) ⌝ }
+    requires { ⌜ (j < riderCountOf q) × (v < nodeCount (now network)) × Ready (now network) q (now distances) ⌝ }
     ensures { λ r. ⌜ r ≡ meetingStep (riderWeightOf q j) (getD (now (distances .entry)) (j * nodeCount (now (network .entry)) + v) 0) ⌝ }
 {
     let distance = distances[place(network, j, v)];

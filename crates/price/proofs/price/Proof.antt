@@ -4,6 +4,7 @@ use mathlib.Core.Path.{refl, ap}
 use Rattle.rules.specs.Answers.{pricedOutcome}
 use Rattle.rules.specs.declared.Request.{Request}
 use Rattle.rules.proofs.SoundRequestLaws.{records-sound, value-sound}
+use Rattle.rules.specs.Request.{riderCountOf}
 use Rattle.records.proofs.RequestLaws.{request-verdict, request-accepted, request-value}
 use Rattle.price.proofs.EntryLaws.{records-refused, refused-31, route-priced, meeting-count}
 use borrow.Author.Needs.{needs}
@@ -14,7 +15,7 @@ returns : tie.Need-returns
 returns c = records-refused _ _ _ _ _ (request-verdict _ _ (c .before .before .before .read-request .ensures)) (c .before .verdict .given .1)
 
 returns-2 : tie.Need-returns-2
-returns-2 c = refused-31 _ _ _ _ (request-accepted _ _ (c .before .before .before .before .read-request .ensures) (c .before .before .enum-told .given .1)) (ap (λ (q : Request). q .count) (request-value _ _ (c .before .before .before .before .read-request .ensures) (c .before .before .enum-told .given .1))) (c .if1 .taken)
+returns-2 c = refused-31 _ _ _ _ (request-accepted _ _ (c .before .before .before .before .read-request .ensures) (c .before .before .enum-told .given .1)) (ap (λ (q : Request). riderCountOf q) (request-value _ _ (c .before .before .before .before .read-request .ensures) (c .before .before .enum-told .given .1))) (c .if1 .taken)
 
 price-route-requires : tie.Need-price-route-requires
 price-route-requires c κs =
@@ -26,7 +27,7 @@ returns-3 c =
     let told = c .enum-told3 .given .1 in
     let value = (request-value _ _ (c .before .before .before .before .before .before .before .read-request .ensures) (c .before .before .before .before .before .enum-told .given .1)) in
     rw told
-    (route-priced _ _ _ _ (request-accepted _ _ (c .before .before .before .before .before .before .before .read-request .ensures) (c .before .before .before .before .before .enum-told .given .1)) (ap (λ (q : Request). q .count) (request-value _ _ (c .before .before .before .before .before .before .before .read-request .ensures) (c .before .before .before .before .before .enum-told .given .1))) (c .before .before .before .if1 .left)
+    (route-priced _ _ _ _ (request-accepted _ _ (c .before .before .before .before .before .before .before .read-request .ensures) (c .before .before .before .before .before .enum-told .given .1)) (ap (λ (q : Request). riderCountOf q) (request-value _ _ (c .before .before .before .before .before .before .before .read-request .ensures) (c .before .before .before .before .before .enum-told .given .1))) (c .before .before .before .if1 .left)
     (rw (told, value) at (c .before .before .price-route .ensures)) refl)
 
 write-requires : tie.Need-write-requires
@@ -44,7 +45,7 @@ returns-4 c =
     let told = c .before .before .before .before .before .enum-told2 .given .1 in
     let value = (request-value _ _ (c .before .before .before .before .before .before .before .before .before .before .before .before .read-request .ensures) (c .before .before .before .before .before .before .before .before .before .before .enum-told .given .1)) in
     rw told
-    (route-priced _ _ _ _ (request-accepted _ _ (c .before .before .before .before .before .before .before .before .before .before .before .before .read-request .ensures) (c .before .before .before .before .before .before .before .before .before .before .enum-told .given .1)) (ap (λ (q : Request). q .count) (request-value _ _ (c .before .before .before .before .before .before .before .before .before .before .before .before .read-request .ensures) (c .before .before .before .before .before .before .before .before .before .before .enum-told .given .1))) (c .before .before .before .before .before .before .before .before .if1 .left)
+    (route-priced _ _ _ _ (request-accepted _ _ (c .before .before .before .before .before .before .before .before .before .before .before .before .read-request .ensures) (c .before .before .before .before .before .before .before .before .before .before .enum-told .given .1)) (ap (λ (q : Request). riderCountOf q) (request-value _ _ (c .before .before .before .before .before .before .before .before .before .before .before .before .read-request .ensures) (c .before .before .before .before .before .before .before .before .before .before .enum-told .given .1))) (c .before .before .before .before .before .before .before .before .if1 .left)
     (rw (told, value) at (c .before .before .before .before .before .before .before .price-route .ensures)) (rw value at (c .before .before .write .ensures)))
 
 pub price-spec : {M : Type 1} → statement M

@@ -5,6 +5,7 @@ use native.Mathlib.Omega.{arith}
 use native.Mathlib.Nat.{mul-le-mul}
 use mathlib.Core.Path.{refl}
 use Rattle.rules.specs.Walks.{noDistance}
+use Rattle.rules.specs.Request.{riderCountOf}
 use Rattle.price.specs.Meetings.{MetBelow}
 use Rattle.price.proofs.MeetLaws.{near-meets, near-stranded, met-none, met-more, met-stranded, met-all, route-from}
 use Rattle.price.proofs.riders.meet_riders.Statement.{statement}
@@ -14,7 +15,7 @@ abbrev Inv-loop : tie.InvT-loop
 Inv-loop network q route driving nodes weights meetings₀ weight price₀ j₀ meetings price j = MetBelow network q route driving j price meetings
 
 abbrev μ-loop : tie.MeasureT-loop
-μ-loop network q route driving nodes weights meetings₀ weight price₀ j₀ meetings price j = q .count - j
+μ-loop network q route driving nodes weights meetings₀ weight price₀ j₀ meetings price j = riderCountOf q - j
 
 mul-price : tie.Need-mul-price Inv-loop μ-loop
 mul-price c = omega (arith, mul-le-mul (c .before .before .before .before .pre .request .bus .1) (c .before .before .before .before .pre .small))

@@ -12,11 +12,11 @@ fill-table-requires : tie.Need-fill-table-requires
 fill-table-requires c κs = (distances-walked (ready (c .before .before .before .before .before .before .before .before .before .before .pre)) (c .before .before .before .before .fill-distances .ensures), c .before .before .before .before .before .before .before .before .before .before .pre .enough .table)
 
 sub-value : tie.Need-sub-value
-sub-value c = omega (arith, c .rider-bit .ensures, pow-pos (c .before .before .before .before .before .before .before .before .before .before .before .before .before .before .before .before .args .q .count))
+sub-value c = omega (arith, c .rider-bit .ensures, pow-pos (c .before .before .before .before .before .before .before .before .before .before .before .before .before .before .before .before .args .q .«rider_count»))
 
 value-requires : tie.Need-value-requires
 value-requires c κs =
-    value-ready (known (c .before .before .before .before .before .before .before .before .before .before .before .before .before .before .before .before .pre) (c .before .before .before .before .before .before .before .before .before .before .fill-distances .ensures) (c .before .before .before .before .before .fill-table .ensures)) (omega (arith, c .rider-bit .ensures, pow-pos (c .before .before .before .before .before .before .before .before .before .before .before .before .before .before .before .before .args .q .count)))
+    value-ready (known (c .before .before .before .before .before .before .before .before .before .before .before .before .before .before .before .before .pre) (c .before .before .before .before .before .before .before .before .before .before .fill-distances .ensures) (c .before .before .before .before .before .fill-table .ensures)) (omega (arith, c .rider-bit .ensures, pow-pos (c .before .before .before .before .before .before .before .before .before .before .before .before .before .before .before .before .args .q .«rider_count»)))
     (c .before .before .before .before .before .before .before .before .before .before .before .before .before .before .before .before .pre .request .starts)
 
 returns : tie.Need-returns

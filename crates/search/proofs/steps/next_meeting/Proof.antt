@@ -25,7 +25,7 @@ loop-holds c = trying-none (c .before .before .before .before .pre)
 rider : (c : tie.In-loop Inv-loop μ-loop) → Lowest (c .before .loop .left) (trailingZeros 32 (c .before .loop .left))
 rider c = next-rider (c .before .before .before .before .before .before .pre) (c .before .loop .inv) (somebody _ (c .loop-test .taken))
 
-there : (c : tie.In-loop Inv-loop μ-loop) → trailingZeros 32 (c .before .loop .left) < c .before .before .before .before .before .before .args .q .count
+there : (c : tie.In-loop Inv-loop μ-loop) → trailingZeros 32 (c .before .loop .left) < c .before .before .before .before .before .before .args .q .«rider_count»
 there c = rider-below (c .before .before .before .before .before .before .pre) (c .before .loop .inv) _ (rider c)
 
 of : (c : tie.In-loop Inv-loop μ-loop) → 2 ^ trailingZeros 32 (c .before .loop .left) ≤ c .before .loop .left

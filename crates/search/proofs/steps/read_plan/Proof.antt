@@ -21,7 +21,7 @@ rider-bit-requires : tie.Need-rider-bit-requires Inv-loop μ-loop
 rider-bit-requires c κs = omega (arith, c .before .before .before .before .before .pre .known .walked .ready .request .riders)
 
 sub-riders : tie.Need-sub-riders Inv-loop μ-loop
-sub-riders c = omega (arith, c .rider-bit .ensures, pow-pos (c .before .before .before .before .before .before .args .q .count))
+sub-riders c = omega (arith, c .rider-bit .ensures, pow-pos (c .before .before .before .before .before .before .args .q .«rider_count»))
 
 loop-holds : tie.Need-loop-holds Inv-loop μ-loop
 loop-holds c = rw (c .rider-bit .ensures) (writing-none (c .before .before .before .before .before .before .pre))

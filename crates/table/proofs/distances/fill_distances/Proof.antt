@@ -6,12 +6,13 @@ use Rattle.table.proofs.DistanceLaws.{row-fits, row-lent, walked-none, 
 use Rattle.table.proofs.RowLaws.{Lies}
 use Rattle.table.proofs.distances.fill_distances.Statement.{statement}
 use Rattle.table.proofs.distances.fill_distances.Tie as tie
+use Rattle.rules.specs.Request.{riderCountOf}
 
 abbrev Inv-loop : tie.InvT-loop
 Inv-loop network q distances₀ n nodes j₀ distances j = WalkedRows network q j distances₀ distances
 
 abbrev μ-loop : tie.MeasureT-loop
-μ-loop network q distances₀ n nodes j₀ distances j = q .count - j
+μ-loop network q distances₀ n nodes j₀ distances j = riderCountOf q - j
 
 loop-holds : tie.Need-loop-holds Inv-loop μ-loop
 loop-holds c = walked-none

@@ -32,7 +32,7 @@ same-length c = c .before .loop .inv .kept .size
 
 returns : tie.Need-returns Inv-loop μ-loop
 returns c =
-    let all : c .before .loop .riders ≡ 2 ^ c .before .before .before .before .before .before .before .args .q .count = omega (arith, c .before .before .rider-bit .ensures) in
+    let all : c .before .loop .riders ≡ 2 ^ c .before .before .before .before .before .before .before .args .q .«rider_count» = omega (arith, c .before .before .rider-bit .ensures) in
     filled-all (c .before .before .before .before .before .before .before .pre .0) (rw all at (c .before .loop .inv))
 
 pub fill-table-spec : {M : Type 1} → statement M
