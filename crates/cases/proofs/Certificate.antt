@@ -6,7 +6,7 @@ use lib.Dec.{ltb}
 use lib.ListN.{length, getD}
 use Rattle.rules.specs.Checks.{firstOf, each as checks}
 use Rattle.rules.specs.Numbers.{number}
-use Rattle.rules.specs.Network.{openingChecks, sizeChecks, networkChecks, nodeCount, linkCount, from, to, drive, walk, closed}
+use Rattle.rules.specs.Network.{openingChecks, sizeChecks, networkChecks, nodeCount, linkCount, from, to, drive, walk}
 use Rattle.rules.specs.Request.{countChecks, nodeChecks, weightChecks, requestChecks, riderNodeOf, riderWeightOf, requestVerdict, sevenPlaces, requestValue, riderCountOf, busWeightOf}
 use Rattle.rules.specs.Walks.{noDistance}
 use Rattle.rules.specs.Routes.{nodeAt, sum}
@@ -15,7 +15,7 @@ use Rattle.rules.specs.Rooms.{noFinish, distancePlaces, tablePlaces}
 use Rattle.rules.specs.declared.Request.{Request}
 use Rattle.rules.specs.declared.Verdict.{Verdict}
 use Rattle.rules.specs.declared.Verdict.the-variants.{Accepted, Refused}
-use Rattle.finish.specs.Packed.{packedStep}
+use Rattle.rules.specs.Limits.{closed, packedStep}
 use Rattle.right.specs.Reading.{planValue}
 use Rattle.cases.specs.Cases.{Result, plan, none, Case, asked, rowDistance, rowValue}
 use Rattle.cases.proofs.Tests.{Test, atMost, below, same, both, either, given, each, some, allBelow, anyBelow, passes}

@@ -7,8 +7,8 @@ use lib.ListN.{getD, take}
 use Rattle.rules.specs.Numbers.{number}
 use Rattle.rules.specs.Request.{requestValue}
 use Rattle.rules.specs.Routes.{Price}
-use Rattle.rules.specs.Rooms.{HoldsFinish}
-use Rattle.rules.specs.Answers.{Outcome, gives, Lent, Searched}
+use Rattle.rules.specs.Rooms.{HoldsFinish, Lent}
+use Rattle.rules.specs.Answers.{Outcome, gives, Searched}
 use Rattle.rules.specs.Town.{town, caseA}
 use Rattle.cases.specs.Cases.{asked}
 use Rattle.cases.specs.TownRows.{rowA, rowD}

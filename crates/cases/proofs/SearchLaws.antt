@@ -15,8 +15,8 @@ use Rattle.rules.specs.Checks.{firstOf}
 use Rattle.rules.specs.Network.{nodeCount}
 use Rattle.rules.specs.Request.{requestValue, requestVerdict, recordChecks, riderCountOf}
 use Rattle.rules.specs.Plans.{allRiders}
-use Rattle.rules.specs.Rooms.{Kept, Distances, Table}
-use Rattle.rules.specs.Answers.{Outcome, gives, Lent, searchChecks, Searched, refused, hopeless, planned}
+use Rattle.rules.specs.Rooms.{Kept, Distances, Table, Lent}
+use Rattle.rules.specs.Answers.{Outcome, gives, searchChecks, Searched, refused, hopeless, planned}
 use Rattle.rules.specs.declared.Verdict.the-variants.{Accepted}
 use Rattle.rules.proofs.Clash.{clash}
 use Rattle.rules.proofs.Order.{front-passed, accepted-front}

@@ -11,7 +11,8 @@ use Rattle.rules.specs.Request.{SoundValue, riderCountOf}
 use Rattle.rules.specs.Plans.{Finish, arrive, meet, drive, RightPlan}
 use Rattle.rules.specs.Rooms.{noFinish}
 use Rattle.rules.specs.declared.Request.{Request}
-use Rattle.finish.specs.Packed.{Packed, packedStep}
+use Rattle.rules.specs.Limits.{packedStep}
+use Rattle.finish.specs.Packed.{Packed}
 use Rattle.finish.proofs.Sets.{has-below}
 use Rattle.right.specs.Reading.{Tabled, Step, meets, drives, Next, planValue, Reading}
 use Rattle.right.proofs.Reading.{go-on, step-inside, reading-next, reading-done}

@@ -9,10 +9,11 @@ use Rattle.rules.specs.Numbers.{number}
 use Rattle.rules.specs.Request.{requestValue}
 use Rattle.rules.specs.Routes.{nodeAt, Price}
 use Rattle.rules.specs.Plans.{RightPlan}
-use Rattle.rules.specs.Answers.{gives, refuses, Lent, PricedRoute, refused, stranded, priced}
+use Rattle.rules.specs.Answers.{gives, refuses, PricedRoute, refused, stranded, priced}
 use Rattle.rules.proofs.Clash.{clash}
 use Rattle.rules.proofs.PriceLaws.{price-unique}
 use Rattle.rules.proofs.PlanLaws.{right-plan-unique}
+use Rattle.rules.specs.Rooms.{Lent}
 use Rattle.right.specs.Steps.{drivesOf}
 use Rattle.cases.specs.Cases.{plan, none, asked}
 use Rattle.cases.specs.Searches.{EnoughFor, zeros, SearchedCase, Fails, Planner, replyAt, Answers, Keeps, NoNodeTwice, EndsAtTarget}

@@ -2,10 +2,10 @@
 use Prim.Native.Nat.{ℕ, _+_, _/_}
 use mathlib.Core.List.{List, [], _∷_, _++_}
 use lib.ListN.{length}
-use Rattle.rules.specs.Network.{closed}
 use Rattle.rules.specs.Walks.{noDistance}
 use Rattle.rules.specs.Rooms.{noFinish}
 use Rattle.rules.specs.Town.{twoBytes, link, request, rider}
+use Rattle.rules.specs.Limits.{closed}
 use Rattle.cases.specs.Cases.{plan, none, Case, best}
 
 -- a network of so many nodes with its links' bytes, eight for each

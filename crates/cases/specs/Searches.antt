@@ -8,8 +8,8 @@ use Rattle.rules.specs.Network.{nodeCount}
 use Rattle.rules.specs.Request.{requestValue, riderCountOf}
 use Rattle.rules.specs.Routes.{nodeAt}
 use Rattle.rules.specs.Plans.{allRiders}
-use Rattle.rules.specs.Rooms.{Written, distancePlaces, tablePlaces, stepPlaces}
-use Rattle.rules.specs.Answers.{Outcome, gives, refuses, Lent, Enough, Searched}
+use Rattle.rules.specs.Rooms.{Written, distancePlaces, tablePlaces, stepPlaces, Lent, Enough}
+use Rattle.rules.specs.Answers.{Outcome, gives, refuses, Searched}
 use Rattle.cases.specs.Cases.{Result, plan, none, Case, asked}
 
 abbrev pub answerOf : Result → Outcome

@@ -7,7 +7,7 @@ use lib.ListN.{length}
 use Rattle.rules.specs.Checks.{refuse}
 use Rattle.rules.specs.Network.{nodeCount, networkVerdict, networkOf, SoundNetwork}
 use Rattle.rules.specs.Request.{recordChecks, requestVerdict, requestOf, requestValue, SoundValue}
-use Rattle.rules.specs.Answers.{Outcome, gives, refuses, Walked, refused, stranded, priced, PricedRoute, Lent, hopeless, planned, Searched}
+use Rattle.rules.specs.Answers.{Outcome, gives, refuses, Walked, refused, stranded, priced, PricedRoute, hopeless, planned, Searched}
 use Rattle.rules.specs.declared.Refusal.{Refusal}
 use Rattle.rules.specs.declared.NetworkRead.{NetworkRead}
 use Rattle.rules.specs.declared.RequestRead.{RequestRead}
@@ -19,6 +19,7 @@ use Rattle.rules.proofs.AnswerLaws.{verdict-told-apart}
 use Rattle.rules.proofs.Refusals.{same-refusal, Small, network-small, records-small, search-small}
 use Rattle.rules.proofs.SoundNetworkLaws.{network-sound}
 use Rattle.rules.proofs.SoundRequestLaws.{records-sound, value-sound}
+use Rattle.rules.specs.Rooms.{Lent}
 use Rattle.finish.proofs.Bounds.{right-plan-bounded}
 use Rattle.desk.specs.Numbers.{refusalNumber, verdictNumber}
 use Rattle.desk.proofs.Places.{walk-small, price-small}

@@ -5,7 +5,7 @@ use mathlib.Core.Path.{_≡_, refl, sym, _∙_, ap}
 use mathlib.Core.List.{List}
 use Rattle.rules.specs.Network.{networkOf}
 use Rattle.rules.specs.Request.{requestOf, riderCountOf}
-use Rattle.rules.specs.Answers.{verdictOutcome, pricedOutcome, plannedOutcome, Lent}
+use Rattle.rules.specs.Answers.{verdictOutcome, pricedOutcome, plannedOutcome}
 use Rattle.rules.specs.declared.Refusal.{Refusal}
 use Rattle.rules.specs.declared.Verdict.{Verdict}
 use Rattle.rules.specs.declared.Verdict.the-variants.{Accepted, Refused as NotAccepted}
@@ -13,6 +13,7 @@ use Rattle.rules.specs.declared.Priced.the-variants.{Price as Costs, Refused as
 use Rattle.rules.specs.declared.Planned.the-variants.{Plan as Found, Refused as NotPlanned}
 use Rattle.rules.proofs.AnswerLaws.{verdict-told-apart, priced-told-apart, planned-told-apart, walked-unique, priced-route-unique, searched-unique}
 use Rattle.rules.proofs.Refusals.{Small}
+use Rattle.rules.specs.Rooms.{Lent}
 use Rattle.records.proofs.RequestLaws.{few-riders}
 use Rattle.price.proofs.Bounds.{pricing-bounded}
 use Rattle.desk.specs.Numbers.{refusalNumber, verdictNumber, networkNumber, requestNumber, pricedNumber, plannedNumber, WalkTold, PriceTold, PlanTold}

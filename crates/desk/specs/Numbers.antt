@@ -2,7 +2,7 @@
 use Prim.Native.Nat.{ℕ, _+_, _*_, _^_}
 use mathlib.Core.Path.{_≡_}
 use mathlib.Core.List.{List}
-use Rattle.rules.specs.Answers.{verdictOutcome, pricedOutcome, plannedOutcome, Walked, PricedRoute, Lent, Searched}
+use Rattle.rules.specs.Answers.{verdictOutcome, pricedOutcome, plannedOutcome, Walked, PricedRoute, Searched}
 use Rattle.rules.specs.declared.Refusal.{Refusal}
 use Rattle.rules.specs.declared.NetworkRead.{NetworkRead}
 use Rattle.rules.specs.declared.RequestRead.{RequestRead}
@@ -13,6 +13,7 @@ use Rattle.rules.specs.declared.Priced.the-variants.{Price as Costs, Refused as
 use Rattle.rules.specs.declared.Planned.{Planned}
 use Rattle.rules.specs.declared.Planned.the-variants.{Plan as Found, Refused as NotPlanned}
 use Rattle.rules.specs.Request.{riderCountOf}
+use Rattle.rules.specs.Rooms.{Lent}
 
 abbrev pub refusalNumber : Refusal → ℕ
 refusalNumber r = 2 ^ 63 + 65536 * r .place + r .number

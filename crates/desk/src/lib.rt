@@ -13,7 +13,7 @@ ghost use Prim.Native.Nat.{_<_};
 ghost use mathlib.Core.Path.{_≡_};
 ghost use Rattle.rules.specs.Network.{networkOf};
 ghost use Rattle.rules.specs.Request.{requestOf};
-ghost use Rattle.search.specs.Rooms.{lent};
+ghost use Rattle.rules.specs.Rooms.{lent};
 ghost use Rattle.desk.specs.Numbers.{refusalNumber, networkNumber, requestNumber, WalkTold, PriceTold, PlanTold};
 
 // Reads a network record: 65,536 × n + m, or its refusal.

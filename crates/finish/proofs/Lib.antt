@@ -1,6 +1,5 @@
 -- From finishes as lists of steps to least packed sums, and back.
 pub mod Sets
-pub mod LeastLaws
 pub mod Packing
 pub mod Shortening
 pub mod Bounds

@@ -1,21 +1,24 @@
--- A packed finish is a trip over drive arcs to where it ends or meets its first rider. Why the least packed sum is least in cost and then in steps: `least-holds` (Bounds).
-use Prim.Native.Nat.{ℕ, _+_, _*_}
+-- A packed finish is a trip over drive arcs to where it ends or meets its first rider. Why the least packed sum is least in cost
+-- and then in steps: `least-holds` (Bounds).
+use Prim.Native.Nat.{ℕ, _*_}
 use mathlib.Core.Path.{_≡_, refl}
 use mathlib.Core.Logic.{inl, inr, _↔_}
 use mathlib.Core.List.{List, [], _∷_}
 use native.Mathlib.Omega.{arith}
 use lib.ListN.{length}
+use Rattle.rules.specs.Limits.{pack, packedStep}
 use Rattle.rules.specs.Plans.{Finish, arrive, meet, drive, driveStep}
 use Rattle.rules.specs.declared.Request.{Request}
 use Rattle.rules.specs.Request.{busWeightOf}
 use Rattle.least.specs.Trips.{Trip, done, step}
-use Rattle.finish.specs.Packed.{packedStep, Packed, DriveArc, Ends}
+use Rattle.finish.specs.Packed.{Packed, DriveArc, Ends}
 
 module _ {network : List ℕ} {q : Request} where
-  pub packed : {R v cost : ℕ} {steps : List ℕ} → Finish network q R v steps cost → Packed network q R v (4096 * cost + length steps)
+  pub packed : {R v cost : ℕ} {steps : List ℕ} → Finish network q R v steps cost → Packed network q R v (pack cost (length steps))
   packed {cost = cost} {steps = steps} f = record { steps = steps; cost = cost; finishes = f; packs = refl }
 
-  finish-trip : {R v cost x : ℕ} {steps : List ℕ} → Finish network q R v steps cost → x ≡ 4096 * cost + length steps → Trip (DriveArc network (busWeightOf q)) (Ends network q R) v x
+  finish-trip : {R v cost x : ℕ} {steps : List ℕ} → Finish network q R v steps cost → x ≡ pack cost (length steps)
+      → Trip (DriveArc network (busWeightOf q)) (Ends network q R) v x
   finish-trip {x = x} (arrive none here free) packs = done {sum = x} (inl (none, here, omega arith))
   finish-trip {x = x} (meet {j = j} d rest has walks f e) packs =
       done {sum = x} (inr (j, record { distance = d; rest = _; has = has; walks = walks; finishes = packed f; packs = omega arith }))

@@ -8,7 +8,7 @@ use native.Mathlib.Omega.{arith}
 use lib.Count.{ones, onesIn, ones-step, trailingZeros, under}
 use lib.Pow.{pow-mono, pow-pos}
 use Rattle.rules.specs.Plans.{Has, without}
-use Rattle.finish.specs.Sets.{Lowest}
+use Rattle.finish.specs.Sets.{Subset, LowestRider}
 
 -- A rider's digit is the rider before's digit of the half.
 halved : (R j : ℕ) → R / 2 ^ suc j ≡ R / 2 / 2 ^ j
@@ -78,6 +78,17 @@ without-others R j h i = (
   λ g. other-digit R j i h (g .1) ∙ g .0,
 )
 
+-- A set is a subset of itself, and stays one of the other when it loses a rider.
+pub subset-all : {R : ℕ} → Subset R R
+subset-all = record { within = omega arith; of = λ j has. has }
+
+pub subset-less : {left R : ℕ} (j : ℕ) → Has left j → Subset left R → Subset (without left j) R
+subset-less {left} j has so =
+    record {
+      within = omega (arith, so .within);
+      of = λ i other. so .of i (without-others left j has i .0 other .0);
+    }
+
 -- Of l riders, the set of all has exactly those below l.
 pub all-have : (l j : ℕ) → Has (2 ^ l - 1) j ↔ (j < l)
 all-have l j = (has-below (2 ^ l - 1) j l (omega (arith, pow-pos l)), has l j)
@@ -89,7 +100,7 @@ all-have l j = (has-below (2 ^ l - 1) j l (omega (arith, pow-pos l)), has l j)
         let half : (2 ^ suc l - 1) / 2 ≡ 2 ^ l - 1 = omega (arith, pow-succ' 2 l, pow-pos l) in
         rw (halved, half) (has l j (omega arith))
 
-half-lowest : (R j : ℕ) → R % 2 ≡ 0 → Lowest (R / 2) j → Lowest R (suc j)
+half-lowest : (R j : ℕ) → R % 2 ≡ 0 → LowestRider (R / 2) j → LowestRider R (suc j)
 half-lowest R j even low = record { has = has-half R j (low .has); first = first }
   where
     first : (i : ℕ) → i < suc j → Has R i → ⊥
@@ -97,11 +108,12 @@ half-lowest R j even low = record { has = has-half R j (low .has); first = first
     first (suc i) l h = low .first i (omega arith) (half-has R i h)
 
 -- Trailing zeros count the riders below the lowest.
-pub lowest-rider : (k R : ℕ) → 0 < R → R < 2 ^ k → Lowest R (trailingZeros k R)
+pub lowest-rider : (k R : ℕ) → 0 < R → R < 2 ^ k → LowestRider R (trailingZeros k R)
 unfolding trailingZeros
 lowest-rider zero R some small = absurd (omega arith)
 lowest-rider (suc k) R some small = go (R % 2) refl (λ more. lowest-rider k (R / 2) more (omega (arith, pow-succ' 2 k)))
   where
-    go : (digit : ℕ) → R % 2 ≡ digit → (0 < R / 2 → Lowest (R / 2) (trailingZeros k (R / 2))) → Lowest R (under digit (trailingZeros k (R / 2)))
+    go : (digit : ℕ) → R % 2 ≡ digit → (0 < R / 2 → LowestRider (R / 2) (trailingZeros k (R / 2)))
+        → LowestRider R (under digit (trailingZeros k (R / 2)))
     go zero even low = half-lowest R _ even (low (omega arith))
     go (suc digit) odd low = record { has = omega arith; first = λ i l. absurd (omega arith) }

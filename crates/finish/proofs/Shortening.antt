@@ -6,12 +6,13 @@ use native.Mathlib.Nat.{add-mul, le-refl}
 use native.Mathlib.Omega.{arith}
 use lib.Count.{ones}
 use lib.ListN.{length}
+use Rattle.rules.specs.Network.{SoundNetwork, nodeCount}
 use Rattle.rules.specs.Plans.{Finish, arrive, meet, drive, driveStep}
 use Rattle.rules.specs.Routes.{Drivable}
 use Rattle.rules.specs.declared.Request.{Request}
+use Rattle.rules.proofs.WalkLaws.{leads-joins}
 use Rattle.rules.specs.Request.{busWeightOf}
 use Rattle.least.specs.Trips.{Trip, done, step, arcCount, Inside}
-use Rattle.least.specs.Walking.{EndsBelow}
 use Rattle.least.proofs.Shortening.{shortened}
 use Rattle.finish.specs.Short.{ShortFinish}
 use Rattle.finish.proofs.Sets.{ones-without}
@@ -24,22 +25,23 @@ record Drive (network : List ℕ) (q : Request) (v x w : ℕ) : Type 0 where
   costs : w ≡ busWeightOf q * cost
 
 -- A finish of so many steps.
-record Sized (network : List ℕ) (q : Request) (R count v cost : ℕ) : Type 0 where
+record FinishOf (network : List ℕ) (q : Request) (R count v cost : ℕ) : Type 0 where
   steps : List ℕ
   finishes : Finish network q R v steps cost
   size : length steps ≡ count
 
 -- A stretch of drives, and then a finish of few steps.
-record Stretch (network : List ℕ) (q : Request) (n R v most count : ℕ) : Type 0 where
+record Stretch (network : List ℕ) (q : Request) (R v most count : ℕ) : Type 0 where
   rest : ℕ
   sum : ℕ
-  trip : Trip (Drive network q) (Sized network q R rest) v sum
+  trip : Trip (Drive network q) (FinishOf network q R rest) v sum
   cheap : sum ≤ most
   fewer : arcCount trip + rest ≤ count
-  short : rest ≤ ones R + ones R * (n - 1)
+  short : rest ≤ ones R + ones R * (nodeCount network - 1)
 
 module _ {network : List ℕ} {q : Request} where
-  joined : {R rest v sum : ℕ} (t : Trip (Drive network q) (Sized network q R rest) v sum) → Sized network q R (arcCount t + rest) v sum
+  joined : {R rest v sum : ℕ} (t : Trip (Drive network q) (FinishOf network q R rest) v sum)
+      → FinishOf network q R (arcCount t + rest) v sum
   unfolding arcCount
   joined (done i) = record { steps = i .steps; finishes = i .finishes; size = omega arith }
   joined {sum = sum} (step x w rest a t e) =
@@ -50,12 +52,12 @@ module _ {network : List ℕ} {q : Request} where
         size = omega arith;
       }
 
-  module _ {n : ℕ} (ends : EndsBelow n network) where
-    inside : Inside n (Drive network q)
-    inside u v w h a = omega (arith, ends (a .link) (a .leads .exists))
+  module _ (sound : SoundNetwork network) where
+    inside : Inside (nodeCount network) (Drive network q)
+    inside u v w h a = leads-joins sound (a .leads) .end
 
     -- The stretch is shortened to fewer than n drives.
-    short : {R v most count : ℕ} → v < n → Stretch network q n R v most count → ShortFinish network q n R v most count
+    short : {R v most count : ℕ} → v < nodeCount network → Stretch network q R v most count → ShortFinish network q R v most count
     short {R} h s =
         let t = shortened inside h (s .trip) in
         let f = joined (t .trip) in
@@ -65,10 +67,11 @@ module _ {network : List ℕ} {q : Request} where
           finishes = f .finishes;
           cheap = omega arith;
           fewer = omega arith;
-          short = omega (arith, add-mul (ones R) 1 (n - 1));
+          short = omega (arith, add-mul (ones R) 1 (nodeCount network - 1));
         }
 
-    stopped : {R v cost most count : ℕ} {steps : List ℕ} → Finish network q R v steps cost → cost ≤ most → length steps ≤ count → length steps ≤ ones R + ones R * (n - 1) → Stretch network q n R v most count
+    stopped : {R v cost most count : ℕ} {steps : List ℕ} → Finish network q R v steps cost → cost ≤ most → length steps ≤ count
+        → length steps ≤ ones R + ones R * (nodeCount network - 1) → Stretch network q R v most count
     unfolding arcCount
     stopped {cost = cost} {steps = steps} f cheap fewer short =
         record {
@@ -80,14 +83,15 @@ module _ {network : List ℕ} {q : Request} where
           short = short;
         }
 
-    stretch : {R v cost : ℕ} {steps : List ℕ} → v < n → Finish network q R v steps cost → Stretch network q n R v cost (length steps)
+    stretch : {R v cost : ℕ} {steps : List ℕ} → v < nodeCount network → Finish network q R v steps cost
+        → Stretch network q R v cost (length steps)
     unfolding arcCount
     stretch h (arrive none here free) = stopped (arrive none here free) (le-refl _) (le-refl 0) (omega arith)
     stretch {R} h (meet {j = j} d rest has walks f e) =
         let r = short h (stretch h f) in
         stopped (meet d (r .cost) has walks (r .finishes) refl) (omega arith) (omega arith) (omega (arith, ones-without R j has, rw (ones-without R j has) at (r .short)))
     stretch h (drive k x w rest s leads f e) =
-        let r = stretch (omega (arith, ends k (leads .exists))) f in
+        let r = stretch (leads-joins sound leads .end) f in
         record {
           rest = r .rest;
           sum = busWeightOf q * w + r .sum;
@@ -97,6 +101,9 @@ module _ {network : List ℕ} {q : Request} where
           short = r .short;
         }
 
-    -- Every finish from a node v below n has one of no larger cost, no more steps and at most |R| + (|R| + 1) * (n - 1) steps. By induction on the finish, cut where it first meets a rider: what follows that meeting has one of few steps for one rider less, and the drives before it are a trip to there, which has one of fewer than n arcs.
-    pub shorter : {R v cost : ℕ} {steps : List ℕ} → v < n → Finish network q R v steps cost → ShortFinish network q n R v cost (length steps)
+    -- Every finish from a node has one of no larger cost, no more steps and at most |R| + (|R| + 1) * (n - 1) steps. By
+    -- induction on the finish, cut where it first meets a rider: what follows that meeting has one of few steps for one rider
+    -- less, and the drives before it are a trip to there, which has one of fewer than n arcs.
+    pub shorter : {R v cost : ℕ} {steps : List ℕ} → v < nodeCount network → Finish network q R v steps cost
+        → ShortFinish network q R v cost (length steps)
     shorter h f = short h (stretch h f)

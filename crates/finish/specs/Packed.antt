@@ -4,24 +4,21 @@ use mathlib.Core.Path.{_≡_}
 use mathlib.Core.Logic.{_⊎_}
 use mathlib.Core.List.{List}
 use lib.ListN.{length}
+use Rattle.rules.specs.Limits.{stepRange, pack, packedStep}
 use Rattle.rules.specs.Plans.{Finish, Has, without}
 use Rattle.rules.specs.Request.{riderWeightOf}
 use Rattle.rules.specs.Routes.{Drivable, RiderWalks}
 use Rattle.rules.specs.Rooms.{noFinish}
 use Rattle.rules.specs.declared.Request.{Request}
 use Rattle.least.specs.Trips.{Arcs, Inits}
-use Rattle.least.specs.Walking.{Linked}
+use Rattle.least.specs.WalkTrips.{Linked}
 
--- What one step takes that costs so much.
-abbrev pub packedStep : ℕ → ℕ
-packedStep cost = 4096 * cost + 1
-
--- x is 4,096 × cost + steps of a finish from v that meets exactly R.
+-- x packs the cost and the number of steps of a finish from v that meets exactly R.
 pub record Packed (network : List ℕ) (q : Request) (R v x : ℕ) : Type 0 where
   pub steps : List ℕ
   pub cost : ℕ
   pub finishes : Finish network q R v steps cost
-  pub packs : x ≡ 4096 * cost + length steps
+  pub packs : x ≡ pack cost (length steps)
 
 -- To drive link k from v to x takes w, for a bus of that weight.
 pub record DriveLink (network : List ℕ) (weight k v x w : ℕ) : Type 0 where
@@ -48,5 +45,5 @@ Ends network q R v x = ((R ≡ 0) × (v ≡ q .target) × (x ≡ 0)) ⊎ ((j : �
 -- A place below the cap gives cost and number of steps back.
 pub record Unpacks (place : ℕ) (steps : List ℕ) (cost : ℕ) : Type 0 where
   pub below : place < noFinish
-  pub quotient : place / 4096 ≡ cost
-  pub remainder : place % 4096 ≡ length steps
+  pub quotient : place / stepRange ≡ cost
+  pub remainder : place % stepRange ≡ length steps

@@ -7,11 +7,13 @@ use lib.ListN.{length, getD}
 
 -- What holds of some number for each j below the count holds of the numbers of a list.
 module _ (M : ℕ → ℕ → Type 0) where
-  one-more : {count x : ℕ} (xs : List ℕ) → M 0 x → ((j : ℕ) → j < count → M (suc j) (getD xs j 0)) → (j : ℕ) → j < suc count → M j (getD (x ∷ xs) j 0)
+  one-more : {count x : ℕ} (xs : List ℕ) → M 0 x → ((j : ℕ) → j < count → M (suc j) (getD xs j 0)) → (j : ℕ) → j < suc count
+      → M j (getD (x ∷ xs) j 0)
   one-more xs here later zero h = here
   one-more xs here later (suc j) h = later j (omega arith)
 
-pub collect : (count : ℕ) (M : ℕ → ℕ → Type 0) → ((j : ℕ) → j < count → (x : ℕ) × M j x) → (xs : List ℕ) × (length xs ≡ count) × ((j : ℕ) → j < count → M j (getD xs j 0))
+pub collect : (count : ℕ) (M : ℕ → ℕ → Type 0) → ((j : ℕ) → j < count → (x : ℕ) × M j x)
+    → (xs : List ℕ) × (length xs ≡ count) × ((j : ℕ) → j < count → M j (getD xs j 0))
 collect zero M each = ([], refl, λ j h. absurd (omega arith))
 collect (suc count) M each =
     let (xs, size, hold) = collect count (λ j. M (suc j)) (λ j h. each (suc j) (omega arith)) in

@@ -14,7 +14,8 @@ Few zero P = (x : ℕ) → P x → ⊥
 Few (suc k) P = (x : ℕ) → P x → Few k (Without P x)
 
 -- What goes into few nodes and comes back from there is few.
-few-map : (k : ℕ) {P : ℕ → Type 0} (Q : ℕ → Type 0) (to back : ℕ → ℕ) → ((x : ℕ) → P x → Q (to x)) → ((x : ℕ) → P x → back (to x) ≡ x) → Few k Q → Few k P
+few-map : (k : ℕ) {P : ℕ → Type 0} (Q : ℕ → Type 0) (to back : ℕ → ℕ) → ((x : ℕ) → P x → Q (to x))
+    → ((x : ℕ) → P x → back (to x) ≡ x) → Few k Q → Few k P
 unfolding Few
 few-map zero Q to back into same few = λ x p. few (to x) (into x p)
 few-map (suc k) Q to back into same few = λ x p.

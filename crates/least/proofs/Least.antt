@@ -7,6 +7,10 @@ use native.Mathlib.Decide.{decLt}
 use native.Mathlib.Omega.{arith, min-cases}
 use Rattle.least.specs.Least.{Least}
 
+-- The cap is the least of nothing.
+pub least-none : {cap : ℕ} {P : ℕ → Type 0} → ((x : ℕ) → P x → ⊥) → Least cap P cap
+least-none {cap} none = record { capped = le-refl cap; lowest = λ x p. absurd (none x p); met = λ h. absurd (omega arith) }
+
 -- The wider the choice, the smaller its least.
 pub wider : {cap : ℕ} {P Q : ℕ → Type 0} {s t : ℕ} → ((d : ℕ) → Q d → P d) → Least cap P s → Least cap Q t → s ≤ t
 wider {cap} {P} {Q} {s} {t} into a b = elim (decLt t cap) [ yes h ↦ a .lowest t (into t (b .met h)) | no h ↦ omega arith ]
@@ -16,7 +20,8 @@ pub unique : {cap : ℕ} {P : ℕ → Type 0} {s t : ℕ} → Least cap P s → 
 unique a b = omega (arith, wider (λ d p. p) a b, wider (λ d p. p) b a)
 
 -- The least of P is the least of Q if P undercuts Q and what P has below the cap, Q has.
-pub carry : {cap : ℕ} {P Q : ℕ → Type 0} {t : ℕ} → ((d : ℕ) → Q d → (e : ℕ) × P e × (e ≤ d)) → ((d : ℕ) → d < cap → P d → Q d) → Least cap P t → Least cap Q t
+pub carry : {cap : ℕ} {P Q : ℕ → Type 0} {t : ℕ} → ((d : ℕ) → Q d → (e : ℕ) × P e × (e ≤ d)) → ((d : ℕ) → d < cap → P d → Q d)
+    → Least cap P t → Least cap Q t
 carry {cap} {P} {Q} {t} under into l =
     record {
       capped = l .capped;

@@ -3,6 +3,6 @@ pub mod Trips
 pub mod Spread
 pub mod Few
 pub mod Shortening
-pub mod Walking
+pub mod WalkTrips
 pub mod Decide
 pub mod Collect

@@ -17,7 +17,8 @@ module _ {Arc : Arcs} {Init : Inits} where
   stands (done i) = i .0
   stands (step v w rest a t e) = a .0
 
-  among : {n u sum : ℕ} → Inside n Arc → u < n → (t : Trip Arc Init u sum) → (s : Among (λ x. x < n) Arc Init u sum) × (arcCount s ≡ arcCount t)
+  among : {n u sum : ℕ} → Inside n Arc → u < n → (t : Trip Arc Init u sum)
+      → (s : Among (λ x. x < n) Arc Init u sum) × (arcCount s ≡ arcCount t)
   unfolding arcCount
   among inside h (done i) = (done (h, i), refl)
   among {u = u} inside h (step v w rest a t e) =
@@ -47,7 +48,10 @@ module _ {Arc : Arcs} {Init : Inits} where
   among-few zero few u sum t = absurd (few u (stands t))
   among-few (suc k) {P} few u sum t = ⊎-elim (λ s. absurd (stands {P = Without P u} (s .0) .1 refl)) (λ s. s) (last u k (among-few k (few u (stands t))) t)
 
-  -- Every trip from a node u below n has one of no larger sum, no more arcs and fewer than n arcs. By induction on the number of nodes that the trip may stand at, n at first: leave out all that comes before its last visit to u. What follows the next arc never stands at u, so it may stand at one node less, and is shortened to fewer than n - 1 arcs. With no node to stand at there is no trip.
+  -- Every trip from a node u below n has one of no larger sum, no more arcs and fewer than n arcs. By induction on the number of
+  -- nodes that the trip may stand at, n at first: leave out all that comes before its last visit to u. What follows the next arc
+  -- never stands at u, so it may stand at one node less, and is shortened to fewer than n - 1 arcs. With no node to stand at
+  -- there is no trip.
   pub shortened : {n u sum : ℕ} → Inside n Arc → u < n → (t : Trip Arc Init u sum) → Shortened Arc Init n u sum (arcCount t)
   shortened {n} {u} {sum} inside h t =
       let (s, same) = among inside h t in
@@ -60,7 +64,8 @@ module _ {Arc : Arcs} {Init : Inits} where
     weighs {u} (step v w rest a t e) = omega (arith, weights u v w a, weighs t, suc-mul (arcCount t) W)
 
     -- Where arcs weigh at most W and starts are at most S, a least sum is at most (n - 1) * W + S, since a shortened trip's sum is.
-    pub bounded : {n u least sum : ℕ} → Inside n Arc → u < n → ((d : ℕ) → Trip Arc Init u d → least ≤ d) → Trip Arc Init u sum → least ≤ (n - 1) * W + S
+    pub bounded : {n u least sum : ℕ} → Inside n Arc → u < n → ((d : ℕ) → Trip Arc Init u d → least ≤ d) → Trip Arc Init u sum
+        → least ≤ (n - 1) * W + S
     bounded {n} inside h lowest t =
         let s = shortened inside h t in
         let few : arcCount (s .trip) ≤ n - 1 = omega arith in

@@ -2,4 +2,4 @@
 pub mod Trips
 pub mod Least
 pub mod Spread
-pub mod Walking
+pub mod WalkTrips

@@ -10,11 +10,12 @@ use lib.Pow.{pow-pos}
 use Rattle.rules.specs.Network.{SoundNetwork, nodeCount}
 use Rattle.rules.specs.Request.{SoundRequest, SoundValue, recordChecks, requestVerdict, requestValue, source, riderCountOf}
 use Rattle.rules.specs.Plans.{Finish, allRiders}
-use Rattle.rules.specs.Answers.{Outcome, gives, refuses, Lent, Searched, refused, hopeless, planned}
+use Rattle.rules.specs.Answers.{Outcome, gives, refuses, Searched, refused, hopeless, planned}
 use Rattle.rules.specs.Program.{line, okWord, refusedWord, stepLine, nodeAfter, stepLines, printed}
 use Rattle.rules.proofs.Clash.{clash}
 use Rattle.rules.proofs.Order.{accepted-front}
 use Rattle.rules.proofs.SoundRequestLaws.{records-sound, value-sound}
+use Rattle.rules.specs.Rooms.{Lent}
 use Rattle.output.specs.Text.{textPlaces, Put}
 use Rattle.output.specs.Answered.{Printable, Answered, Stepping}
 use Rattle.search.proofs.EntryLaws.{sets-few}

@@ -3,11 +3,12 @@ use Prim.Native.Nat.{ℕ, _≤_, _<_}
 use mathlib.Core.Path.{_≡_}
 use mathlib.Core.Logic.{_⊎_, _≢_, _↔_}
 use mathlib.Core.List.{List, List·Memᴰ}
-use Rattle.rules.specs.Network.{linkCount, from, to, drive, walk, closed}
+use Rattle.rules.specs.Network.{linkCount, from, to, drive, walk}
 use Rattle.rules.specs.Walks.{Way, Walkable}
 use Rattle.rules.specs.Routes.{RiderWalks}
 use Rattle.rules.specs.declared.Request.{Request}
 use Rattle.rules.specs.Request.{riderCountOf}
+use Rattle.rules.specs.Limits.{closed}
 
 -- The same links between the same nodes, at whatever costs. (The number of nodes plays no part in a price.)
 pub record SameLinks (a b : List ℕ) : Type 0 where

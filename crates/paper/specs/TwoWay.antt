@@ -4,10 +4,11 @@ use mathlib.Core.Path.{_≡_}
 use mathlib.Core.Logic.{_⊎_, ⊎-swap}
 use mathlib.Core.List.{List, map}
 use native.Mathlib.Omega.{arith}
-use Rattle.rules.specs.Network.{linkCount, from, to, drive, walk, closed}
+use Rattle.rules.specs.Network.{linkCount, from, to, drive, walk}
 use Rattle.rules.specs.Request.{riderNodeOf, riderWeightOf, riderCountOf, busWeightOf}
 use Rattle.rules.specs.Walks.{Walkable}
 use Rattle.rules.specs.declared.Request.{Request}
+use Rattle.rules.specs.Limits.{closed}
 use Rattle.paper.specs.Fraction.{Fraction, times, IsWhole}
 use Rattle.paper.specs.Problem.{Graph, Query}
 use Rattle.paper.specs.Prices.{HasPrice}

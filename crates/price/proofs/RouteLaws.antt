@@ -8,7 +8,7 @@ use mathlib.Core.List.{List, [], _∷_, _++_}
 use lib.ListN.{length, getD}
 use borrow.Author.Tests.{le-leb, lt-leb, lt-ltb, le-ltb, leb-false, ltb-false, eq-eqb, ne-eqb}
 use Rattle.rules.specs.Checks.{check, firstOf, each, refuse, differ}
-use Rattle.rules.specs.Network.{linkCount, from, to, drive, closed}
+use Rattle.rules.specs.Network.{linkCount, from, to, drive}
 use Rattle.rules.specs.Walks.{Way, arrived, along}
 use Rattle.rules.specs.Routes.{Drivable, Route, nodeAt, sum, drivenLinkChecks, routeLinkChecks, routeChecks}
 use Rattle.rules.specs.declared.Refusal.{Refusal}
@@ -16,6 +16,7 @@ use Rattle.rules.specs.declared.Request.{Request}
 use Rattle.rules.specs.declared.Verdict.the-variants.{Accepted, Refused}
 use Rattle.rules.proofs.Order.{passed, front-refused, front-passed, accepted-head, accepted-front, accepted-rest, accepted-each}
 use Rattle.rules.proofs.TestLaws.{same}
+use Rattle.rules.specs.Limits.{closed}
 use Rattle.price.specs.Known.{KnownRoute, drivingOf}
 
 module _ (network : List ℕ) (stands k i : ℕ) {m : ℕ} (reads-m : m ≡ linkCount network) where

@@ -12,7 +12,7 @@ use Rattle.rules.specs.Request.{SoundValue, riderCountOf}
 use Rattle.rules.specs.Plans.{allRiders, Finish, arrive, meet, drive, NoLater, Best, RightPlan}
 use Rattle.rules.specs.Rooms.{noFinish, HasFinish}
 use Rattle.rules.specs.declared.Request.{Request}
-use Rattle.finish.specs.Packed.{packedStep}
+use Rattle.rules.specs.Limits.{packedStep}
 use Rattle.finish.proofs.Sets.{has-below}
 use Rattle.finish.proofs.Packing.{packed}
 use Rattle.finish.proofs.Bounds.{least-holds, best-bounded}

@@ -9,8 +9,9 @@ use Rattle.rules.specs.Routes.{Drivable, RiderWalks}
 use Rattle.rules.specs.Plans.{Has, without, allRiders, driveStep, Finish, NoLater}
 use Rattle.rules.specs.Rooms.{noFinish}
 use Rattle.rules.specs.declared.Request.{Request}
+use Rattle.rules.specs.Limits.{packedStep}
 use Rattle.least.specs.Least.{Least}
-use Rattle.finish.specs.Packed.{Packed, packedStep}
+use Rattle.finish.specs.Packed.{Packed}
 
 -- A table whose places have the least packed values of the finishes from there.
 abbrev pub Tabled : List ℕ → Request → (ℕ → ℕ → ℕ) → Type 0

@@ -1,4 +1,5 @@
--- Laws of the definitions: how checks run in their order, what acceptance gives, how large refusals are, that any two results that satisfy a promise agree, and that a refusal keeps the rooms.
+-- Laws of the definitions: how checks run in their order, what acceptance gives, how large refusals are, that any two results that
+-- satisfy a promise agree, and that a refusal keeps the rooms.
 pub mod Clash
 pub mod Order
 pub mod TestLaws
@@ -8,8 +9,10 @@ pub mod SoundRequestLaws
 pub mod Refusals
 pub mod LinkLaws
 pub mod WalkLaws
+pub mod RiderLaws
 pub mod PriceLaws
 pub mod PlanLaws
 pub mod RoomLaws
+pub mod WritingLaws
 pub mod AnswerLaws
 pub mod Keeping

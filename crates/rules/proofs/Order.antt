@@ -12,30 +12,35 @@ use Rattle.rules.specs.declared.Verdict.{Verdict}
 use Rattle.rules.specs.declared.Verdict.the-variants.{Accepted, Refused}
 use Rattle.rules.proofs.Clash.{clash}
 
-pub given : (number place : ℕ) {applies : Bool} (rest : List Check) → applies ≡ true → firstOf (check number place applies ∷ rest) ≡ Refused (refuse number place)
+pub given : (number place : ℕ) {applies : Bool} (rest : List Check) → applies ≡ true
+    → firstOf (check number place applies ∷ rest) ≡ Refused (refuse number place)
 unfolding firstOf
 given number place rest e = rw e
 
-pub passed : (number place : ℕ) {applies : Bool} (rest : List Check) → applies ≡ false → firstOf (check number place applies ∷ rest) ≡ firstOf rest
+pub passed : (number place : ℕ) {applies : Bool} (rest : List Check) → applies ≡ false
+    → firstOf (check number place applies ∷ rest) ≡ firstOf rest
 unfolding firstOf
 passed number place rest e = rw e
 
-never : {A : Type 0} (r : Refusal) → Refused r ≡ Accepted → A
-never r e = clash (cc)
-
 -- one check more in front of a front that ends in x
-behind : (b : Bool) (r : Refusal) {front whole x : Verdict} → cond b (Refused r) front ≡ x → (front ≡ x → whole ≡ x) → cond b (Refused r) whole ≡ x
+behind : (b : Bool) (r : Refusal) {front whole x : Verdict}
+    → cond b (Refused r) front ≡ x
+    → (front ≡ x → whole ≡ x)
+    → cond b (Refused r) whole ≡ x
 behind true r e f = e
 behind false r e f = f e
 
-before : (b : Bool) (r : Refusal) {front whole rest : Verdict} → cond b (Refused r) front ≡ Accepted → (front ≡ Accepted → whole ≡ rest) → cond b (Refused r) whole ≡ rest
-before true r e f = never r e
+before : (b : Bool) (r : Refusal) {front whole rest : Verdict}
+    → cond b (Refused r) front ≡ Accepted
+    → (front ≡ Accepted → whole ≡ rest)
+    → cond b (Refused r) whole ≡ rest
+before true r e f = clash (cc)
 before false r e f = f e
 
 -- a refusal of the front is the refusal of the whole
 pub front-refused : (front rest : List Check) (r : Refusal) → firstOf front ≡ Refused r → firstOf (front ++ rest) ≡ Refused r
 unfolding firstOf
-front-refused [] rest r e = never r (sym e)
+front-refused [] rest r e = clash (cc)
 front-refused (c ∷ front) rest r e = behind (c .applies) (refuse (c .number) (c .place)) e (front-refused front rest r)
 
 -- an accepted front leaves the whole to the rest
@@ -53,7 +58,7 @@ goes-on front rest is told = sym (front-passed front rest (sym is ∙ told))
 
 -- Accepted means that none applies: not the first, and none of the rest.
 none-applies : (b : Bool) (r : Refusal) {rest : Verdict} → cond b (Refused r) rest ≡ Accepted → (b ≡ false) × (rest ≡ Accepted)
-none-applies true r e = never r e
+none-applies true r e = clash (cc)
 none-applies false r e = (refl, e)
 
 pub accepted-head : (c : Check) (rest : List Check) → firstOf (c ∷ rest) ≡ Accepted → (c .applies ≡ false) × (firstOf rest ≡ Accepted)
@@ -71,7 +76,8 @@ pub accepted-rest : (front rest : List Check) → firstOf (front ++ rest) ≡ Ac
 accepted-rest front rest e = sym (front-passed front rest (accepted-front front rest e)) ∙ e
 
 -- of things in a row: none of the checks of any of them
-pub accepted-each : (checks : ℕ → List Check) (count first : ℕ) → firstOf (each checks count first) ≡ Accepted → (k : ℕ) → k < count → firstOf (checks (first + k)) ≡ Accepted
+pub accepted-each : (checks : ℕ → List Check) (count first : ℕ) → firstOf (each checks count first) ≡ Accepted → (k : ℕ) → k < count
+    → firstOf (checks (first + k)) ≡ Accepted
 unfolding each
 accepted-each checks zero first e k h = absurd (omega arith)
 accepted-each checks (suc count) first e zero h = rw add-zero (accepted-front (checks first) _ e)
@@ -80,7 +86,8 @@ accepted-each checks (suc count) first e (suc k) h =
     rw moved (accepted-each checks count (suc first) (accepted-rest (checks first) _ e) k (omega arith))
 
 -- and the other way: where none applies, accepted
-pub all-pass : (checks : ℕ → List Check) (count first : ℕ) → ((k : ℕ) → k < count → firstOf (checks (first + k)) ≡ Accepted) → firstOf (each checks count first) ≡ Accepted
+pub all-pass : (checks : ℕ → List Check) (count first : ℕ) → ((k : ℕ) → k < count → firstOf (checks (first + k)) ≡ Accepted)
+    → firstOf (each checks count first) ≡ Accepted
 unfolding each firstOf
 all-pass checks zero first pass = refl
 all-pass checks (suc count) first pass =
@@ -88,9 +95,10 @@ all-pass checks (suc count) first pass =
     ∙ all-pass checks count (suc first) (λ k h. let moved : suc first + k ≡ first + suc k = omega arith in rw moved (pass (suc k) (omega arith)))
 
 -- the checks of things in a row, from k on: those of k, then those from k + 1 on
-next : (checks : ℕ → List Check) (count k : ℕ) → k < count → each checks (count - k) k ≡ checks k ++ each checks (count - (k + 1)) (k + 1)
+each-from : (checks : ℕ → List Check) (count k : ℕ) → k < count
+    → each checks (count - k) k ≡ checks k ++ each checks (count - (k + 1)) (k + 1)
 unfolding each
-next checks count k h =
+each-from checks count k h =
     let left : count - k ≡ suc (count - (k + 1)) = omega arith in
     rw (left, add-one)
 
@@ -110,14 +118,14 @@ module _ (checks : ℕ → List Check) (count : ℕ) where
           within = omega arith;
           left =
               sym (front-passed (checks k) (each checks (count - (k + 1)) (k + 1)) e)
-              ∙ ap firstOf (sym (next checks count k h))
+              ∙ ap firstOf (sym (each-from checks count k h))
               ∙ so .left;
         }
 
     pub passed-until : (r : Refusal) → k < count → firstOf (checks k) ≡ Refused r → firstOf (each checks count 0) ≡ Refused r
     passed-until r h e =
         sym (so .left)
-        ∙ ap firstOf (next checks count k h)
+        ∙ ap firstOf (each-from checks count k h)
         ∙ front-refused (checks k) (each checks (count - (k + 1)) (k + 1)) r e
 
     pub passed-all : count ≤ k → firstOf (each checks count 0) ≡ Accepted

@@ -11,7 +11,8 @@ use Rattle.rules.specs.declared.Request.{Request}
 use Rattle.rules.proofs.WalkLaws.{way-sum}
 
 -- A rider has one meeting position on a route, and one distance to it.
-pub meeting-unique : {network : List ℕ} {q : Request} {route : List ℕ} {j p r d e : ℕ} → Meeting network q route j p d → Meeting network q route j r e → (p ≡ r) × (d ≡ e)
+pub meeting-unique : {network : List ℕ} {q : Request} {route : List ℕ} {j p r d e : ℕ} → Meeting network q route j p d
+    → Meeting network q route j r e → (p ≡ r) × (d ≡ e)
 meeting-unique {p} {r} {d} {e} a b =
     let same : d ≡ e = omega (arith, a .least r e (b .within) (b .walks), b .least p d (a .within) (a .walks)) in
     let early : ¬ (p < r) = λ h. b .earliest p h (rw same at a .walks) in
@@ -25,7 +26,9 @@ sum-same zero f g same = refl
 sum-same (suc count) f g same = ap₂ _+_ (sum-same count f g (λ j h. same j (omega arith))) (same count (omega arith))
 
 -- A route has one price and one list of meeting positions.
-pub price-unique : {network : List ℕ} {q : Request} {route meetings others : List ℕ} {c d : ℕ} → length meetings ≡ riderCountOf q → length others ≡ riderCountOf q → Price network q route meetings c → Price network q route others d → (c ≡ d) × (meetings ≡ others)
+pub price-unique : {network : List ℕ} {q : Request} {route meetings others : List ℕ} {c d : ℕ} → length meetings ≡ riderCountOf q
+    → length others ≡ riderCountOf q → Price network q route meetings c → Price network q route others d
+    → (c ≡ d) × (meetings ≡ others)
 price-unique {q} m n a b =
     let walking = sum-same (riderCountOf q) (weighed (a .walking)) (weighed (b .walking)) (λ j h. ap (λ (d : ℕ). riderWeightOf q j * d) (meeting-unique (a .meets j h) (b .meets j h) .1)) in
     (cc (way-sum (a .drives) (b .drives)), ext-getD 0 _ _ (cc) (λ i h. meeting-unique (a .meets i (rw m at h)) (b .meets i (rw m at h)) .0))

@@ -7,6 +7,7 @@ use mathlib.Core.List.{List}
 use lib.ListN.{length}
 use borrow.Author.Tests.{leb-false, lt-leb, eq-eqb}
 use Rattle.rules.specs.Checks.{firstOf, each}
+use Rattle.rules.specs.Limits.{mostNodes, mostLinks}
 use Rattle.rules.specs.Network.{openingChecks, nodeCount, linkCount, linkStart, from, to, sizeChecks, linkChecks, networkChecks, networkVerdict, SoundNetwork}
 use Rattle.rules.specs.declared.Verdict.the-variants.{Accepted}
 use Rattle.rules.proofs.Order.{accepted-head, accepted-front, accepted-rest, accepted-each, front-passed, all-pass}
@@ -14,13 +15,13 @@ use Rattle.rules.proofs.TestLaws.{neither, same, within, not-outside}
 use Rattle.rules.proofs.OpeningLaws.{opening-accepted, opened-accepts}
 
 -- the sizes of a network record
-pub record Sized (s : List ℕ) : Type 0 where
+pub record NetworkSizes (s : List ℕ) : Type 0 where
   pub someNode : 1 ≤ nodeCount s
-  pub nodes : nodeCount s ≤ 512
-  pub links : linkCount s ≤ 2048
+  pub nodes : nodeCount s ≤ mostNodes
+  pub links : linkCount s ≤ mostLinks
   pub whole : length s ≡ linkStart (linkCount s)
 
-pub sizes-accepted : (s : List ℕ) → firstOf (sizeChecks s) ≡ Accepted → Sized s
+pub sizes-accepted : (s : List ℕ) → firstOf (sizeChecks s) ≡ Accepted → NetworkSizes s
 unfolding sizeChecks
 sizes-accepted s e =
     let (a, e₁) = accepted-head _ _ e in
@@ -33,7 +34,8 @@ sizes-accepted s e =
       whole = same _ _ b;
     }
 
-link-accepted : (s : List ℕ) → firstOf (each (linkChecks s) (linkCount s) 0) ≡ Accepted → (k : ℕ) → k < linkCount s → (from s k < nodeCount s) × (to s k < nodeCount s)
+link-accepted : (s : List ℕ) → firstOf (each (linkChecks s) (linkCount s) 0) ≡ Accepted
+    → (k : ℕ) → k < linkCount s → (from s k < nodeCount s) × (to s k < nodeCount s)
 link-accepted s e k h =
     let (here, rest) = accepted-head _ _ (accepted-each (linkChecks s) (linkCount s) 0 e k h) in
     let (a, b) = neither _ _ (rw zero-add at here) in
@@ -43,13 +45,13 @@ link-accepted s e k h =
 pub network-sound : (s : List ℕ) → networkVerdict s ≡ Accepted → SoundNetwork s
 unfolding networkVerdict networkChecks
 network-sound s e =
-    let opening = opening-accepted 1 4 s (accepted-front _ _ e) in
-    let later = accepted-rest (openingChecks 1 4 s) _ e in
+    let opening = opening-accepted 1 1 4 s (accepted-front _ _ e) in
+    let later = accepted-rest (openingChecks 1 1 4 s) _ e in
     let sizes = sizes-accepted s (accepted-front _ _ later) in
     let links = link-accepted s (accepted-rest (sizeChecks s) _ later) in
     record {
       long = opening .long;
-      edition = opening .edition;
+      version = omega arith;
       stated = opening .stated;
       someNode = sizes .someNode;
       nodes = sizes .nodes;
@@ -64,7 +66,7 @@ unfolding sizeChecks firstOf
 sizes-accept s so =
     simp (
       not-outside _ _ _ (so .someNode) (so .nodes),
-      not-outside 0 2048 _ (omega arith) (so .links),
+      not-outside 0 mostLinks _ (omega arith) (so .links),
       eq-eqb _ _ (so .whole),
     )
 
@@ -76,7 +78,7 @@ link-accepts s so k h = simp (lt-leb _ _ (so .starts k h), lt-leb _ _ (so .ends 
 pub sound-network : (s : List ℕ) → SoundNetwork s → networkVerdict s ≡ Accepted
 unfolding networkVerdict networkChecks
 sound-network s so =
-    front-passed (openingChecks 1 4 s) _
-    (opened-accepts 1 4 s (record { long = so .long; edition = so .edition; stated = so .stated }))
+    front-passed (openingChecks 1 1 4 s) _
+    (opened-accepts 1 1 4 s (record { long = so .long; version = (omega arith, omega arith); stated = so .stated }))
     ∙ front-passed (sizeChecks s) _ (sizes-accept s so)
     ∙ all-pass (linkChecks s) (linkCount s) 0 (λ k h. rw zero-add (link-accepts s so k h))

@@ -7,8 +7,11 @@ use mathlib.Core.List.{List}
 use lib.ListN.{length, getD}
 use borrow.Author.Tests.{ltb-false, leb-false, le-ltb, lt-ltb, lt-leb, eq-eqb}
 use Rattle.rules.specs.Checks.{firstOf}
+use Rattle.rules.specs.Limits.{mostRiders, mostWeight}
 use Rattle.rules.specs.Network.{openingChecks, nodeCount, networkChecks, networkVerdict, SoundNetwork}
-use Rattle.rules.specs.Request.{source, target, busWeight, riderCount, riderStart, riderNode, riderWeight, countChecks, riderNodeChecks, nodeChecks, riderWeightChecks, weightChecks, requestChecks, requestVerdict, SoundRequest, sevenPlaces, requestValue, SoundValue}
+use Rattle.rules.specs.Request.{source, target, busWeight, riderCount, riderStart, riderNode, riderWeight}
+use Rattle.rules.specs.Request.{countChecks, riderNodeChecks, nodeChecks, riderWeightChecks, weightChecks, requestChecks, requestVerdict}
+use Rattle.rules.specs.Request.{SoundRequest, sevenPlaces, requestValue, SoundValue}
 use Rattle.rules.specs.declared.Verdict.the-variants.{Accepted}
 use Rattle.rules.proofs.Order.{accepted-head, accepted-front, accepted-rest, accepted-each, front-passed, all-pass}
 use Rattle.rules.proofs.TestLaws.{same, within, not-outside}
@@ -17,7 +20,7 @@ use Rattle.rules.proofs.SoundNetworkLaws.{network-sound, sound-network}
 
 -- the rider count of a request record
 pub record Counted (s : List ℕ) : Type 0 where
-  pub riders : riderCount s ≤ 7
+  pub riders : riderCount s ≤ mostRiders
   pub whole : length s ≡ riderStart (riderCount s)
 
 pub count-accepted : (s : List ℕ) → firstOf (countChecks s) ≡ Accepted → Counted s
@@ -46,8 +49,8 @@ nodes-accepted n s e =
 
 -- the weights of a request record
 record Weighed (s : List ℕ) : Type 0 where
-  bus : (1 ≤ busWeight s) × (busWeight s ≤ 100)
-  weights : (j : ℕ) → j < riderCount s → (1 ≤ riderWeight s j) × (riderWeight s j ≤ 100)
+  bus : (1 ≤ busWeight s) × (busWeight s ≤ mostWeight)
+  weights : (j : ℕ) → j < riderCount s → (1 ≤ riderWeight s j) × (riderWeight s j ≤ mostWeight)
 
 weights-accepted : (s : List ℕ) → firstOf (weightChecks s) ≡ Accepted → Weighed s
 unfolding weightChecks
@@ -62,15 +65,15 @@ weights-accepted s e =
 pub request-sound : (n : ℕ) (s : List ℕ) → firstOf (requestChecks n s) ≡ Accepted → SoundRequest n s
 unfolding requestChecks
 request-sound n s e =
-    let opening = opening-accepted 11 2 s (accepted-front _ _ e) in
-    let e₁ = accepted-rest (openingChecks 11 2 s) _ e in
+    let opening = opening-accepted 11 1 2 s (accepted-front _ _ e) in
+    let e₁ = accepted-rest (openingChecks 11 1 2 s) _ e in
     let counted = count-accepted s (accepted-front _ _ e₁) in
     let e₂ = accepted-rest (countChecks s) _ e₁ in
     let placed = nodes-accepted n s (accepted-front _ _ e₂) in
     let weighed = weights-accepted s (accepted-rest (nodeChecks n s) _ e₂) in
     record {
       long = opening .long;
-      edition = opening .edition;
+      version = omega arith;
       stated = opening .stated;
       riders = counted .riders;
       whole = counted .whole;
@@ -109,8 +112,8 @@ weights-accept s so =
 pub sound-request : (n : ℕ) (s : List ℕ) → SoundRequest n s → firstOf (requestChecks n s) ≡ Accepted
 unfolding requestChecks
 sound-request n s so =
-    front-passed (openingChecks 11 2 s) _
-    (opened-accepts 11 2 s (record { long = so .long; edition = so .edition; stated = so .stated }))
+    front-passed (openingChecks 11 1 2 s) _
+    (opened-accepts 11 1 2 s (record { long = so .long; version = (omega arith, omega arith); stated = so .stated }))
     ∙ front-passed (countChecks s) _ (count-accepts s so)
     ∙ front-passed (nodeChecks n s) _ (nodes-accept n s so)
     ∙ weights-accept s so
@@ -129,7 +132,7 @@ sound-records network s a b =
     front-passed (networkChecks network) _ (sound-network network a) ∙ sound-request (nodeCount network) s b
 
 -- a place in use holds its rider's number
-place-used : (value : ℕ → ℕ) (used j : ℕ) → j < 7 → j < used → getD (sevenPlaces value used) j 0 ≡ value j
+place-used : (value : ℕ → ℕ) (used j : ℕ) → j < mostRiders → j < used → getD (sevenPlaces value used) j 0 ≡ value j
 unfolding sevenPlaces
 place-used value used zero h g = simp (lt-ltb _ _ g)
 place-used value used (suc zero) h g = simp (lt-ltb _ _ g)

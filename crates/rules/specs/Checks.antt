@@ -1,4 +1,4 @@
--- "Checks run in the order listed; the first that applies is given. Place is 0 unless named."
+-- Checks in their order (4.1): the first that applies is the refusal.
 use Prim.Native.Nat.{ℕ, zero, suc}
 use mathlib.Core.Bool.{Bool, not, _||_, cond}
 use mathlib.Core.List.{List, [], _∷_, _++_}
@@ -7,7 +7,7 @@ use Rattle.rules.specs.declared.Refusal.{Refusal}
 use Rattle.rules.specs.declared.Verdict.{Verdict}
 use Rattle.rules.specs.declared.Verdict.the-variants.{Accepted, Refused}
 
--- A row of the table of refusals: its number, its place, and whether it is given.
+-- A check: the refusal's number, its place, and whether it applies.
 pub record Check : Type 0 where
   pub number : ℕ
   pub place : ℕ
@@ -28,7 +28,7 @@ unfoldable pub each : (ℕ → List Check) → ℕ → ℕ → List Check
 each checks zero first = []
 each checks (suc count) first = checks first ++ each checks count (suc first)
 
--- The tests that the table names in words.
+-- Tests that the checks share.
 abbrev pub differ : ℕ → ℕ → Bool
 differ x y = not (eqb x y)
 

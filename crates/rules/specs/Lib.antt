@@ -1,4 +1,6 @@
--- Document 01 as definitions, in its order: the two records, the rules of cost, what the search leaves behind, the answers, the program.
+-- The rules of docs/RULES.md as definitions, in its order: the two records, what is paid for, what the search leaves behind, the
+-- answers, the small town, the program. A number in brackets is the rule's.
+pub mod Limits
 pub mod Checks
 pub mod Numbers
 pub mod Network
@@ -8,5 +10,5 @@ pub mod Routes
 pub mod Plans
 pub mod Rooms
 pub mod Answers
-pub mod Program
 pub mod Town
+pub mod Program

@@ -1,4 +1,5 @@
--- The network record: "version byte 1; total length (4 bytes, the whole record); n (2); m (2); then m links of 8 bytes: from, to, drive, walk, 2 bytes each."
+-- The network record (1.2): a version byte, the record's length in four bytes, n and m in two each; then for each link, in two
+-- bytes each, where it starts, where it ends, and what it costs to drive and to walk.
 use Prim.Native.Nat.{ℕ, _+_, _*_, _≤_, _<_}
 use mathlib.Core.Bool.{Bool, _||_, cond}
 use mathlib.Core.Path.{_≡_}
@@ -7,23 +8,23 @@ use lib.ListN.{length, take, drop}
 use lib.Dec.{ltb, leb}
 use denote.Ref.{RefT}
 use Rattle.rules.specs.Checks.{Check, check, firstOf, each, differ, outside, beside}
+use Rattle.rules.specs.Limits.{mostNodes, mostLinks}
 use Rattle.rules.specs.Numbers.{byte, two, number}
 use Rattle.rules.specs.declared.Verdict.{Verdict}
 use Rattle.rules.specs.declared.NetworkRead.{NetworkRead}
 
--- Both records open with a version byte and their total length, of `size` bytes.
-abbrev pub version : List ℕ → ℕ
-version s = byte s 0
+-- Both records open with their version and their length, which has `size` bytes. The rest of a record begins at byte 9.
+abbrev pub versionOf : List ℕ → ℕ
+versionOf s = byte s 0
 
 abbrev pub statedLength : ℕ → List ℕ → ℕ
 statedLength size s = number size s 1
 
--- 1, 2, 3: "network under 9 bytes; version not 1; stated length differs from the slice's"
--- 11, 12, 13: "the same three for the request"
-unfoldable pub openingChecks : ℕ → ℕ → List ℕ → List Check
-openingChecks lowest size s =
+-- The three refusals of an opening (4.2, 4.3): too short for it, no version that is known (1 to `latest`), not as long as it states.
+unfoldable pub openingChecks : ℕ → ℕ → ℕ → List ℕ → List Check
+openingChecks lowest latest size s =
     check lowest 0 (ltb (length s) 9)
-    ∷ check (lowest + 1) 0 (differ (version s) 1)
+    ∷ check (lowest + 1) 0 (outside 1 latest (versionOf s))
     ∷ check (lowest + 2) 0 (differ (statedLength size s) (length s))
     ∷ []
 
@@ -48,18 +49,14 @@ drive s k = two s (linkStart k + 4)
 abbrev pub walk : List ℕ → ℕ → ℕ
 walk s k = two s (linkStart k + 6)
 
--- "A cost is 0 to 65,534; 65,535 means closed to that use."
-abbrev pub closed : ℕ
-closed = 65535
-
--- 4, 5: "n or m beyond its limit; length not 9+8m"
+-- Refusals 4 and 5 (4.2): the limits of n and m, and a length that is no whole number of links or not m of them.
 unfoldable pub sizeChecks : List ℕ → List Check
 sizeChecks s =
-    check 4 0 (outside 1 512 (nodeCount s) || outside 0 2048 (linkCount s))
+    check 4 0 (outside 1 mostNodes (nodeCount s) || outside 0 mostLinks (linkCount s))
     ∷ check 5 0 (differ (length s) (linkStart (linkCount s)))
     ∷ []
 
--- 6: "a link names a node of n or more (place: lowest such link)"
+-- Refusal 6 (4.2), at link k.
 abbrev pub linkBeyond : List ℕ → ℕ → Bool
 linkBeyond s k = leb (nodeCount s) (from s k) || leb (nodeCount s) (to s k)
 
@@ -67,16 +64,16 @@ abbrev pub linkChecks : List ℕ → ℕ → List Check
 linkChecks s k = check 6 k (linkBeyond s k) ∷ []
 
 unfoldable pub networkChecks : List ℕ → List Check
-networkChecks s = openingChecks 1 4 s ++ (sizeChecks s ++ each (linkChecks s) (linkCount s) 0)
+networkChecks s = openingChecks 1 1 4 s ++ (sizeChecks s ++ each (linkChecks s) (linkCount s) 0)
 
--- What a network record is, where none of these applies: "Limits: n 1 to 512, m 0 to 2,048", and each link between nodes of the network.
+-- What a network record is that none of these checks refuses.
 pub record SoundNetwork (s : List ℕ) : Type 0 where
   pub long : 9 ≤ length s
-  pub edition : version s ≡ 1
+  pub version : versionOf s ≡ 1
   pub stated : statedLength 4 s ≡ length s
   pub someNode : 1 ≤ nodeCount s
-  pub nodes : nodeCount s ≤ 512
-  pub links : linkCount s ≤ 2048
+  pub nodes : nodeCount s ≤ mostNodes
+  pub links : linkCount s ≤ mostLinks
   pub whole : length s ≡ linkStart (linkCount s)
   pub starts : (k : ℕ) → k < linkCount s → from s k < nodeCount s
   pub ends : (k : ℕ) → k < linkCount s → to s k < nodeCount s
@@ -84,7 +81,7 @@ pub record SoundNetwork (s : List ℕ) : Type 0 where
 unfoldable pub networkVerdict : List ℕ → Verdict
 networkVerdict s = firstOf (networkChecks s)
 
--- "A network once read gives n and m, both 0 beside a refusal."
+-- What reading gives (1.8): n and m, and 0 for both beside a refusal.
 unfoldable pub networkOf : List ℕ → NetworkRead
 networkOf s =
     record {
@@ -93,7 +90,7 @@ networkOf s =
       m = beside (networkVerdict s) (linkCount s) 0;
     }
 
--- "For a link number the reader hands back the link's eight bytes in the caller's own record, not a copy. A bad record or a number of m or more gives the empty part at the record's start."
+-- The part that is handed back for link k (1.10): its eight bytes where they lie, or the empty part where the record starts.
 abbrev pub hasLink : List ℕ → ℕ → Bool
 hasLink s k = ltb k (networkOf s .m)
 

@@ -1,4 +1,4 @@
--- "Numbers are unsigned, big-endian."
+-- The numbers of a record: unsigned, the highest byte first (1.1).
 use Prim.Native.Nat.{ℕ, zero, suc, _+_, _*_}
 use mathlib.Core.List.{List}
 use lib.ListN.{getD}

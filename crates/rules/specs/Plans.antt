@@ -4,11 +4,12 @@ use mathlib.Core.Path.{_≡_}
 use mathlib.Core.Logic.{_⊎_}
 use mathlib.Core.List.{List, [], _∷_}
 use lib.ListN.{length}
-use Rattle.rules.specs.Request.{riderWeightOf, riderCountOf, busWeightOf}
+use Rattle.rules.specs.Limits.{firstDrive}
+use Rattle.rules.specs.Request.{busWeightOf, riderCountOf, riderWeightOf}
 use Rattle.rules.specs.Routes.{Drivable, RiderWalks}
 use Rattle.rules.specs.declared.Request.{Request}
 
--- "R is a set of riders still to be met, numbered by its bits (rider j has bit 2^j)."
+-- Sets of riders, numbered by their bits: rider j's is 2^j (3.1).
 abbrev pub Has : ℕ → ℕ → Type 0
 Has R j = (R / 2 ^ j) % 2 ≡ 1
 
@@ -18,11 +19,12 @@ without R j = R - 2 ^ j
 abbrev pub allRiders : Request → ℕ
 allRiders q = 2 ^ riderCountOf q - 1
 
--- "Step j below 8 is "rider j is met here"; step 8+k is "drive link k"."
+-- Step j meets rider j, and this step drives link k (2.8).
 abbrev pub driveStep : ℕ → ℕ
-driveStep k = 8 + k
+driveStep k = firstDrive + k
 
--- A finish from v to the target that meets exactly the riders R, and its cost. "The drive steps, in order, form a route. Each of the l riders, and no other, is met once, at a node to which that rider has a walking distance. Its cost is that sum, taken at the nodes named."
+-- A finish from v: steps that drive on to the target and meet each rider of R once and no other, where the rider can walk to; and
+-- what these cost, driven and walked (2.9).
 pub data Finish (network : List ℕ) (q : Request) : ℕ → ℕ → List ℕ → ℕ → Type 0 where
   arrive :
       {R v c : ℕ}
@@ -45,7 +47,7 @@ pub data Finish (network : List ℕ) (q : Request) : ℕ → ℕ → List ℕ �
       → c ≡ busWeightOf q * w + rest
       → Finish network q R v (step ∷ steps) c
 
--- "A plan is a list of 16-bit steps."
+-- A plan is a finish from the source for all riders.
 abbrev pub Plan : List ℕ → Request → List ℕ → ℕ → Type 0
 Plan network q steps cost = Finish network q (allRiders q) (q .source) steps cost
 
@@ -55,13 +57,13 @@ NoLater [] ys = Unit
 NoLater (x ∷ xs) [] = ⊥
 NoLater (x ∷ xs) (y ∷ ys) = (x < y) ⊎ ((x ≡ y) × NoLater xs ys)
 
--- "least cost; then fewest steps", of the finishes from v that meet exactly R
+-- A finish that none undercuts: not in cost, and not in steps at the same cost.
 pub record Best (network : List ℕ) (q : Request) (R v : ℕ) (steps : List ℕ) (cost : ℕ) : Type 0 where
   pub finishes : Finish network q R v steps cost
   pub cheapest : (other : List ℕ) (c : ℕ) → Finish network q R v other c → cost ≤ c
   pub fewest : (other : List ℕ) → Finish network q R v other cost → length steps ≤ length other
 
--- "The right plan has least cost; then fewest steps; then it comes first in dictionary order of its step numbers."
+-- The right plan is a best one, and of those as cheap and as short the first in the dictionary (2.10).
 pub record RightPlan (network : List ℕ) (q : Request) (steps : List ℕ) (cost : ℕ) : Type 0 where
   pub best : Best network q (allRiders q) (q .source) steps cost
   pub first : (other : List ℕ) → Plan network q other cost → length other ≡ length steps → NoLater steps other

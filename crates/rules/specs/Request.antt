@@ -1,4 +1,5 @@
--- The request record: "version byte 1; total length (2); source (2); target (2); bus weight (1); rider count l (1); then l riders: node (2), weight (1)."
+-- The request record (1.5): a version byte, the record's length in two bytes, source and target in two each, a byte for the bus
+-- weight and one for the rider count; then for each rider the node in two bytes and a byte for the weight.
 use Prim.Native.Nat.{ℕ, _+_, _*_, _≤_, _<_}
 use mathlib.Core.Path.{_≡_}
 use mathlib.Core.Bool.{cond}
@@ -6,8 +7,9 @@ use mathlib.Core.List.{List, [], _∷_, _++_, map}
 use lib.ListN.{length, getD}
 use lib.Dec.{ltb, leb}
 use Rattle.rules.specs.Checks.{Check, check, firstOf, each, differ, outside, beside}
+use Rattle.rules.specs.Limits.{mostRiders, mostWeight}
 use Rattle.rules.specs.Numbers.{byte, two}
-use Rattle.rules.specs.Network.{version, statedLength, openingChecks, nodeCount, networkChecks}
+use Rattle.rules.specs.Network.{versionOf, statedLength, openingChecks, nodeCount, networkChecks}
 use Rattle.rules.specs.declared.Verdict.{Verdict}
 use Rattle.rules.specs.declared.Request.{Request}
 use Rattle.rules.specs.declared.RequestRead.{RequestRead}
@@ -33,12 +35,12 @@ riderNode s j = two s (riderStart j)
 abbrev pub riderWeight : List ℕ → ℕ → ℕ
 riderWeight s j = byte s (riderStart j + 2)
 
--- 14, 15: "count above 7; length not 9+3l"
+-- Refusals 14 and 15 (4.3): the limit of the rider count, and a length that is not that of so many riders.
 unfoldable pub countChecks : List ℕ → List Check
 countChecks s =
-    check 14 0 (ltb 7 (riderCount s)) ∷ check 15 0 (differ (length s) (riderStart (riderCount s))) ∷ []
+    check 14 0 (ltb mostRiders (riderCount s)) ∷ check 15 0 (differ (length s) (riderStart (riderCount s))) ∷ []
 
--- 16: "a node of n or more (place: 0 source, 1 target, 2+j rider; lowest)"
+-- Refusal 16 (4.3): the places are those of the source, the target, and each rider.
 abbrev pub nodeCheck : ℕ → ℕ → ℕ → Check
 nodeCheck n place node = check 16 place (leb n node)
 
@@ -49,9 +51,9 @@ unfoldable pub nodeChecks : ℕ → List ℕ → List Check
 nodeChecks n s =
     nodeCheck n 0 (source s) ∷ nodeCheck n 1 (target s) ∷ each (riderNodeChecks n s) (riderCount s) 0
 
--- 17: "a weight outside 1 to 100 (place: 0 bus, 1+j rider; lowest)"
+-- Refusal 17 (4.3): the places are those of the bus and of each rider.
 abbrev pub weightCheck : ℕ → ℕ → Check
-weightCheck place weight = check 17 place (outside 1 100 weight)
+weightCheck place weight = check 17 place (outside 1 mostWeight weight)
 
 abbrev pub riderWeightChecks : List ℕ → ℕ → List Check
 riderWeightChecks s j = weightCheck (1 + j) (riderWeight s j) ∷ []
@@ -60,29 +62,29 @@ unfoldable pub weightChecks : List ℕ → List Check
 weightChecks s = weightCheck 0 (busWeight s) ∷ each (riderWeightChecks s) (riderCount s) 0
 
 unfoldable pub requestChecks : ℕ → List ℕ → List Check
-requestChecks n s = openingChecks 11 2 s ++ (countChecks s ++ (nodeChecks n s ++ weightChecks s))
+requestChecks n s = openingChecks 11 1 2 s ++ (countChecks s ++ (nodeChecks n s ++ weightChecks s))
 
--- What a request record for a network of n nodes is, where none of these applies: "l is 0 to 7, weights 1 to 100".
+-- What a request record for a network of n nodes is that none of these checks refuses.
 pub record SoundRequest (n : ℕ) (s : List ℕ) : Type 0 where
   pub long : 9 ≤ length s
-  pub edition : version s ≡ 1
+  pub version : versionOf s ≡ 1
   pub stated : statedLength 2 s ≡ length s
-  pub riders : riderCount s ≤ 7
+  pub riders : riderCount s ≤ mostRiders
   pub whole : length s ≡ riderStart (riderCount s)
   pub starts : source s < n
   pub ends : target s < n
   pub nodes : (j : ℕ) → j < riderCount s → riderNode s j < n
-  pub bus : (1 ≤ busWeight s) × (busWeight s ≤ 100)
-  pub weights : (j : ℕ) → j < riderCount s → (1 ≤ riderWeight s j) × (riderWeight s j ≤ 100)
+  pub bus : (1 ≤ busWeight s) × (busWeight s ≤ mostWeight)
+  pub weights : (j : ℕ) → j < riderCount s → (1 ≤ riderWeight s j) × (riderWeight s j ≤ mostWeight)
 
--- "The request reader is given the network record too, whose refusals come first."
+-- Both records: the network's refusals come first (1.7).
 abbrev pub recordChecks : List ℕ → List ℕ → List Check
 recordChecks network s = networkChecks network ++ requestChecks (nodeCount network) s
 
 unfoldable pub requestVerdict : List ℕ → List ℕ → Verdict
 requestVerdict network s = firstOf (recordChecks network s)
 
--- "one value with its seven rider places; unused places are zero"
+-- The value has a place for each rider that there may be; those that are not used are 0 (1.9).
 unfoldable pub sevenPlaces : (ℕ → ℕ) → ℕ → List ℕ
 sevenPlaces value used = map (λ j. cond (ltb j used) (value j) 0) (0 ∷ 1 ∷ 2 ∷ 3 ∷ 4 ∷ 5 ∷ 6 ∷ [])
 
@@ -109,14 +111,14 @@ riderNodeOf q j = getD (q .nodes) j 0
 abbrev pub riderWeightOf : Request → ℕ → ℕ
 riderWeightOf q j = getD (q .weights) j 0
 
--- a sound request, as its value says it
+-- A sound request, as its value says it.
 pub record SoundValue (n : ℕ) (q : Request) : Type 0 where
-  pub riders : riderCountOf q ≤ 7
+  pub riders : riderCountOf q ≤ mostRiders
   pub starts : q .source < n
   pub ends : q .target < n
   pub nodes : (j : ℕ) → j < riderCountOf q → riderNodeOf q j < n
-  pub bus : (1 ≤ busWeightOf q) × (busWeightOf q ≤ 100)
-  pub weights : (j : ℕ) → j < riderCountOf q → (1 ≤ riderWeightOf q j) × (riderWeightOf q j ≤ 100)
+  pub bus : (1 ≤ busWeightOf q) × (busWeightOf q ≤ mostWeight)
+  pub weights : (j : ℕ) → j < riderCountOf q → (1 ≤ riderWeightOf q j) × (riderWeightOf q j ≤ mostWeight)
 
 unfoldable pub noRequest : Request
 noRequest =
@@ -129,7 +131,7 @@ noRequest =
       weights = sevenPlaces (λ j. 0) 0;
     }
 
--- "a refused request gives the value with every field zero beside its refusal"
+-- What reading gives (1.9): the value, and zeros throughout beside a refusal.
 unfoldable pub requestOf : List ℕ → List ℕ → RequestRead
 requestOf network s =
     record {

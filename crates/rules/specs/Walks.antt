@@ -3,9 +3,10 @@ use Prim.Native.Nat.{ℕ, _+_, _<_, _≤_, _^_, _-_}
 use mathlib.Core.Path.{_≡_}
 use mathlib.Core.Logic.{_⊎_}
 use mathlib.Core.List.{List, [], _∷_}
-use Rattle.rules.specs.Network.{linkCount, from, to, walk, closed}
+use Rattle.rules.specs.Limits.{closed}
+use Rattle.rules.specs.Network.{linkCount, from, to, walk}
 
--- Link k is open to a use that it costs `cost k`, and leads from u to v at the cost w.
+-- Link k is open to a use that it costs `cost k`, and leads from u to v at the cost w (1.4).
 pub record Leads (network : List ℕ) (cost : ℕ → ℕ) (k u v w : ℕ) : Type 0 where
   pub exists : k < linkCount network
   pub starts : from network k ≡ u
@@ -13,7 +14,7 @@ pub record Leads (network : List ℕ) (cost : ℕ → ℕ) (k u v w : ℕ) : Typ
   pub costs : cost k ≡ w
   pub opened : w < closed
 
--- The links, one behind the other, lead from u to v, and their costs add up to c: the first starts at u, each next starts where the last ended, the last ends at v. No link at all leads from a node to itself, at 0.
+-- The links, one behind the other, lead from u to v, and their costs add up to c. No link at all leads from a node to itself, at 0.
 pub data Way (Link : ℕ → ℕ → ℕ → ℕ → Type 0) (v : ℕ) : ℕ → List ℕ → ℕ → Type 0 where
   arrived : {u c : ℕ} → u ≡ v → c ≡ 0 → Way Link v u [] c
   along :
@@ -23,14 +24,14 @@ pub data Way (Link : ℕ → ℕ → ℕ → ℕ → Type 0) (v : ℕ) : ℕ →
       → c ≡ w + rest
       → Way Link v u (k ∷ links) c
 
--- "A walk runs along links open to walkers, from `from` to `to`."
+-- People walk links that are open to them, the way they lead (2.1).
 abbrev pub Walkable : List ℕ → ℕ → ℕ → ℕ → ℕ → Type 0
 Walkable network = Leads network (walk network)
 
 abbrev pub Walk : List ℕ → ℕ → ℕ → List ℕ → ℕ → Type 0
 Walk network u v links sum = Way (Walkable network) v u links sum
 
--- "The walking distance is the least sum of walk costs; 0 from a node to itself; none if no walk exists."
+-- d is the walking distance from u to v: a walk's sum, and no walk's is lower (2.2).
 pub record WalkingDistance (network : List ℕ) (u v d : ℕ) : Type 0 where
   pub links : List ℕ
   pub walked : Walk network u v links d
@@ -39,10 +40,10 @@ pub record WalkingDistance (network : List ℕ) (u v d : ℕ) : Type 0 where
 abbrev pub NoWalk : List ℕ → ℕ → ℕ → Type 0
 NoWalk network u v = (links : List ℕ) (sum : ℕ) → Walk network u v links sum → ⊥
 
--- "4,294,967,295 is none"
+-- the mark of no walking distance in a 32-bit place (2.3)
 abbrev pub noDistance : ℕ
 noDistance = 2 ^ 32 - 1
 
--- what a 32-bit place holds of the way from u to v
+-- what a place holds of the way from u to v
 abbrev pub HoldsDistance : List ℕ → ℕ → ℕ → ℕ → Type 0
 HoldsDistance network u v place = WalkingDistance network u v place ⊎ (NoWalk network u v × (place ≡ noDistance))

@@ -8,13 +8,14 @@ use lib.ListN.{length}
 use Rattle.rules.specs.Checks.{firstOf}
 use Rattle.rules.specs.Network.{nodeCount}
 use Rattle.rules.specs.Request.{recordChecks, requestVerdict, requestValue, SoundValue, riderCountOf}
-use Rattle.rules.specs.Answers.{Outcome, Lent, searchChecks, Searched, refused, hopeless, planned}
+use Rattle.rules.specs.Answers.{Outcome, searchChecks, Searched, refused, hopeless, planned}
 use Rattle.rules.specs.declared.Verdict.the-variants.{Accepted}
 use Rattle.rules.proofs.Clash.{clash}
 use Rattle.rules.proofs.Order.{front-passed, accepted-front, accepted-rest}
 use Rattle.rules.proofs.Refusals.{search-small}
 use Rattle.rules.proofs.SoundRequestLaws.{records-sound, sound-records, value-sound}
 use Rattle.rules.proofs.PlanLaws.{right-plan-unique}
+use Rattle.rules.specs.Rooms.{Lent}
 use Rattle.right.proofs.Right.{right-price}
 use Rattle.right.proofs.Routes.{right-cheapest, no-plan}
 use Rattle.search.specs.Demand.{Given, Demand3}

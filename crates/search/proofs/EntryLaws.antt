@@ -10,8 +10,8 @@ use borrow.Author.Tests.{lt-ltb, le-ltb, ltb-false}
 use Rattle.rules.specs.Checks.{refuse, firstOf}
 use Rattle.rules.specs.Network.{nodeCount}
 use Rattle.rules.specs.Request.{recordChecks, requestVerdict, requestValue, riderCountOf}
-use Rattle.rules.specs.Rooms.{distancePlaces, tablePlaces, stepPlaces}
-use Rattle.rules.specs.Answers.{Outcome, refuses, Lent, Enough, Searched, Searching, roomChecks, refused}
+use Rattle.rules.specs.Rooms.{distancePlaces, tablePlaces, stepPlaces, Lent, Enough}
+use Rattle.rules.specs.Answers.{Outcome, refuses, Searched, Searching, roomChecks, refused}
 use Rattle.rules.specs.declared.Refusal.{Refusal}
 use Rattle.rules.specs.declared.Request.{Request}
 use Rattle.rules.specs.declared.Verdict.{Verdict}

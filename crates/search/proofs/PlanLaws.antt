@@ -6,8 +6,8 @@ use mathlib.Core.Logic.{⊎-elim, _≢_}
 use mathlib.Core.List.{List, [], _∷_}
 use lib.Pow.{pow-pos}
 use Rattle.rules.specs.Plans.{allRiders, NoPlan}
-use Rattle.rules.specs.Rooms.{noFinish, Distances, Table}
-use Rattle.rules.specs.Answers.{gives, refuses, Lent, Searching, hopeless, planned}
+use Rattle.rules.specs.Rooms.{noFinish, Distances, Table, Lent, lent}
+use Rattle.rules.specs.Answers.{gives, refuses, Searching, hopeless, planned}
 use Rattle.rules.specs.declared.Request.{Request}
 use Rattle.rules.specs.declared.Verdict.the-variants.{Accepted}
 use Rattle.rules.specs.Request.{riderCountOf}
@@ -15,7 +15,7 @@ use Rattle.finish.proofs.Bounds.{holds-least, unpacks}
 use Rattle.table.specs.Filling.{Ready}
 use Rattle.table.proofs.DistanceLaws.{distances-walked}
 use Rattle.search.specs.Known.{Known, valueAt, Planning, PlanWritten}
-use Rattle.search.specs.Rooms.{lent, Roomy}
+use Rattle.search.specs.Rooms.{Roomy}
 
 pub ready : {network : List ℕ} {q : Request} {before : Lent} → Roomy network q before → Ready network q (before .distances)
 ready rooms = record { sound = rooms .sound; request = rooms .request; places = rooms .enough .distances }

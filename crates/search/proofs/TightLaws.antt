@@ -7,14 +7,14 @@ use mathlib.Core.Logic.{⊎-elim, inl}
 use mathlib.Core.List.{List}
 use lib.ListN.{getD}
 use borrow.Author.Tests.{eq-eqb, ne-eqb, le-leb, lt-leb}
-use Rattle.rules.specs.Network.{nodeCount, linkCount, from, to, drive, closed}
+use Rattle.rules.specs.Network.{nodeCount, linkCount, from, to, drive}
 use Rattle.rules.specs.Request.{riderNodeOf, riderWeightOf, riderCountOf, busWeightOf}
 use Rattle.rules.specs.Walks.{HoldsDistance, noDistance}
 use Rattle.rules.specs.Plans.{Has, without}
 use Rattle.rules.specs.Rooms.{noFinish}
 use Rattle.rules.specs.declared.Request.{Request}
 use Rattle.rules.proofs.WalkLaws.{holds-distance-unique}
-use Rattle.finish.specs.Packed.{packedStep}
+use Rattle.rules.specs.Limits.{closed, packedStep}
 use Rattle.finish.proofs.Sets.{has-below}
 use Rattle.finish.proofs.Bounds.{walking-bounded}
 use Rattle.right.specs.Reading.{Step, meets, drives, Tight}

@@ -8,8 +8,8 @@ use Rattle.rules.specs.Network.{SoundNetwork, nodeCount}
 use Rattle.rules.specs.Request.{SoundRequest, requestValue, riderCountOf}
 use Rattle.rules.specs.Routes.{Price}
 use Rattle.rules.specs.Plans.{RightPlan}
-use Rattle.rules.specs.Rooms.{Written}
-use Rattle.rules.specs.Answers.{Outcome, gives, refuses, Lent, Enough}
+use Rattle.rules.specs.Rooms.{Written, Lent, Enough}
+use Rattle.rules.specs.Answers.{Outcome, gives, refuses}
 use Rattle.rules.specs.declared.Request.{Request}
 use Rattle.right.specs.Steps.{drivesOf, positionsOf, NoDrive}
 

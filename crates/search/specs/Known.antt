@@ -6,12 +6,12 @@ use mathlib.Core.List.{List}
 use lib.ListN.{length, getD, take, drop}
 use lib.Dec.{leb}
 use Rattle.rules.specs.Checks.{differ}
-use Rattle.rules.specs.Network.{nodeCount, linkCount, from, drive, closed}
+use Rattle.rules.specs.Network.{nodeCount, linkCount, from, drive}
 use Rattle.rules.specs.Plans.{Has, RightPlan}
 use Rattle.rules.specs.Rooms.{Written, tablePlaces, stepPlaces, noFinish}
 use Rattle.rules.specs.declared.Request.{Request}
 use Rattle.rules.specs.Request.{riderCountOf}
-use Rattle.finish.specs.Packed.{packedStep}
+use Rattle.rules.specs.Limits.{closed, packedStep}
 use Rattle.right.specs.Reading.{Tight, Next, Reading, planValue}
 use Rattle.table.specs.Filling.{KnownDistances, FilledBelow}
 use Rattle.search.specs.declared.steps.Move.{Move}

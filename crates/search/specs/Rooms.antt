@@ -3,8 +3,8 @@ use Prim.Native.Nat.{ℕ}
 use mathlib.Core.List.{List}
 use Rattle.rules.specs.Network.{SoundNetwork, nodeCount}
 use Rattle.rules.specs.Request.{SoundValue, riderCountOf}
-use Rattle.rules.specs.Answers.{Lent, Enough}
 use Rattle.rules.specs.declared.Request.{Request}
+use Rattle.rules.specs.Rooms.{Lent, Enough}
 
 abbrev pub lent : List ℕ → List ℕ → List ℕ → Lent
 lent distances table steps = record { distances = distances; table = table; steps = steps }

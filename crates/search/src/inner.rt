@@ -10,7 +10,8 @@ use table::inner::fill_distances;
 use table::inner::fill_table;
 use table::inner::rider_bit;
 ghost use Rattle.rules.specs.Answers.{plannedOutcome, Searching};
-ghost use Rattle.search.specs.Rooms.{lent, Roomy};
+ghost use Rattle.rules.specs.Rooms.{lent};
+ghost use Rattle.search.specs.Rooms.{Roomy};
 
 // Fills the distances and the table, and writes the right plan's steps: its cost and number of steps, or refusal 24.
 pub fn plan(

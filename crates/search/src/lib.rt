@@ -13,7 +13,7 @@ ghost use Prim.Native.Nat.{_≤_};
 ghost use mathlib.Core.Path.{_≡_};
 ghost use Rattle.rules.specs.Checks.{firstOf};
 ghost use Rattle.rules.specs.Answers.{plannedOutcome, roomChecks, Searched};
-ghost use Rattle.search.specs.Rooms.{lent};
+ghost use Rattle.rules.specs.Rooms.{lent};
 
 // Finds the right plan: fills the riders' walking distances and the work table, and writes the plan's steps. Answers its
 // cost and number of steps; or 24, with distances and table filled; or another refusal, with every room unchanged.

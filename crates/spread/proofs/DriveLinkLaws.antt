@@ -4,8 +4,9 @@ use native.Mathlib.Omega.{arith}
 use mathlib.Core.Path.{_≡_, refl, sym, _∙_, ap}
 use mathlib.Core.List.{List}
 use lib.ListN.{getD, set}
-use Rattle.rules.specs.Network.{linkCount, from, to, drive, closed}
-use Rattle.finish.specs.Packed.{packedStep, DriveLink, DriveArc}
+use Rattle.rules.specs.Network.{linkCount, from, to, drive}
+use Rattle.rules.specs.Limits.{closed, packedStep}
+use Rattle.finish.specs.Packed.{DriveLink, DriveArc}
 use Rattle.spread.specs.Relaxing.{RelaxedLink, Progress}
 use Rattle.spread.proofs.RelaxingLaws.{progress-none, progress-one, only-arc}
 

@@ -4,7 +4,8 @@ use native.Mathlib.Omega.{arith}
 use mathlib.Core.Path.{_≡_, sym, _∙_}
 use mathlib.Core.List.{List}
 use lib.ListN.{getD, set}
-use Rattle.rules.specs.Network.{linkCount, from, to, walk, closed}
+use Rattle.rules.specs.Network.{linkCount, from, to, walk}
+use Rattle.rules.specs.Limits.{closed}
 use Rattle.least.specs.Walking.{WalkBack}
 use Rattle.spread.specs.Relaxing.{RelaxedLink, Progress}
 use Rattle.spread.specs.Walking.{WalkLink}

@@ -15,8 +15,9 @@ use Rattle.rules.specs.Walks.{HoldsDistance, noDistance}
 use Rattle.rules.specs.Plans.{Has, without}
 use Rattle.rules.specs.Rooms.{noFinish}
 use Rattle.rules.specs.declared.Request.{Request}
+use Rattle.rules.specs.Limits.{packedStep}
 use Rattle.least.specs.Least.{Least}
-use Rattle.finish.specs.Packed.{packedStep, Packed, Ends}
+use Rattle.finish.specs.Packed.{Packed, Ends}
 use Rattle.finish.specs.Rows.{MetSeen}
 use Rattle.finish.proofs.Sets.{has-le, has-below, somebody, nobody-empty, nobody-has, without-less, without-others, lowest-rider}
 use Rattle.finish.proofs.Rows.{arrived-least, outside-more, none-seen, all-seen, rider-reaches, rider-strays}

@@ -10,9 +10,10 @@ use Rattle.rules.specs.Walks.{HoldsDistance, noDistance}
 use Rattle.rules.specs.Plans.{Has}
 use Rattle.rules.specs.Rooms.{Kept, distancePlaces, tablePlaces, noFinish}
 use Rattle.rules.specs.declared.Request.{Request}
+use Rattle.rules.specs.Limits.{packedStep}
 use Rattle.least.specs.Least.{Least}
 use Rattle.finish.specs.Rows.{MetSeen, Outside}
-use Rattle.finish.specs.Packed.{packedStep, Packed, Ends}
+use Rattle.finish.specs.Packed.{Packed, Ends}
 
 -- Sound records, and room for the riders' distances.
 pub record Ready (network : List ℕ) (q : Request) (distances : List ℕ) : Type 0 where

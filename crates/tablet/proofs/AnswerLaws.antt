@@ -7,13 +7,12 @@ use borrow.Author.Tests.{eq-eqb, ne-eqb}
 use Rattle.rules.specs.Checks.{refuse, firstOf}
 use Rattle.rules.specs.Request.{recordChecks, requestVerdict, requestValue}
 use Rattle.rules.specs.Routes.{routeChecks}
-use Rattle.rules.specs.Answers.{Outcome, refuses, Pricing, refused, routeOf, tabletChecks}
+use Rattle.rules.specs.Answers.{Outcome, refuses, Pricing, refused, routeOf, tabletChecks, TabletPriced}
 use Rattle.rules.specs.declared.Refusal.{Refusal}
 use Rattle.rules.specs.declared.Verdict.{Verdict}
 use Rattle.rules.specs.declared.Verdict.the-variants.{Accepted, Refused as NotAccepted}
 use Rattle.rules.proofs.Order.{passed, front-refused, front-passed}
 use Rattle.price.proofs.RouteLaws.{route-32}
-use Rattle.tablet.specs.Answer.{TabletPriced}
 use Rattle.tablet.proofs.RouteLaws.{route-size}
 
 module _ (network request bytes : List ℕ) where

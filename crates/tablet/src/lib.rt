@@ -8,8 +8,7 @@ use rules::LONGEST_ROUTE;
 use rules::Priced;
 use rules::Refusal;
 use rules::Verdict;
-ghost use Rattle.rules.specs.Answers.{pricedOutcome, Tablet};
-ghost use Rattle.tablet.specs.Answer.{TabletPriced};
+ghost use Rattle.rules.specs.Answers.{pricedOutcome, Tablet, TabletPriced};
 
 // Prices a route whose link numbers come as bytes, the high one first. From 2^63 on, the answer is a refusal's number.
 #[no_mangle]
