@@ -1,6 +1,6 @@
 -- How large the numbers of a finish are, and what the place of the table says of it.
 use Prim.Native.Nat.{ℕ, zero, suc, _+_, _-_, _*_, _^_, _≤_, _<_}
-use mathlib.Core.Path.{_≡_}
+use mathlib.Core.Path.{_≡_, refl}
 use mathlib.Core.Logic.{inl, inr}
 use mathlib.Core.List.{List}
 use native.Mathlib.Nat.{mul-le-mul}
@@ -21,7 +21,7 @@ use Rattle.least.specs.Least.{Least}
 use Rattle.least.specs.WalkTrips.{longestWalk}
 use Rattle.least.proofs.Least.{least-none}
 use Rattle.least.proofs.WalkTrips.{walking-bounded}
-use Rattle.finish.specs.Short.{Bounded}
+use Rattle.finish.specs.Short.{mostCost, Bounded}
 use Rattle.finish.specs.Packed.{Packed, Unpacks}
 use Rattle.finish.proofs.Sets.{has-below, ones-without, without-less}
 use Rattle.finish.proofs.Packing.{packed}
@@ -33,6 +33,9 @@ dearestDrive = mostWeight * (closed - 1)
 
 abbrev dearestWalk : ℕ
 dearestWalk = mostWeight * longestWalk
+
+pub most-cost : mostCost ≡ 50231811000
+most-cost = refl
 
 module _ {network : List ℕ} (sound : SoundNetwork network) where
   pub rider-bounded : {q : Request} {j v d : ℕ} → v < nodeCount network → RiderWalks network q j v d → d ≤ longestWalk

@@ -43,7 +43,14 @@ half-without-first R h = omega arith
 pub ones-without : (R j : ℕ) → Has R j → ones (without R j) + 1 ≡ ones R
 ones-without R zero h = omega (arith, ones-step R, rw (half-without-first R h) at (ones-step (without R 0)))
 ones-without R (suc j) h =
-    omega (arith, has-le R (suc j) h, pow-succ' 2 j, ones-step R, rw (half-without R j h) at (ones-step (without R (suc j))), ones-without (R / 2) j (half-has R j h))
+    omega (
+      arith,
+      has-le R (suc j) h,
+      pow-succ' 2 j,
+      ones-step R,
+      rw (half-without R j h) at (ones-step (without R (suc j))),
+      ones-without (R / 2) j (half-has R j h),
+    )
 
 -- The count of ones is 0 exactly when R is empty.
 pub nobody : ones 0 ≡ 0

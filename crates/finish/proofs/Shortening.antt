@@ -89,7 +89,8 @@ module _ {network : List ℕ} {q : Request} where
     stretch h (arrive none here free) = stopped (arrive none here free) (le-refl _) (le-refl 0) (omega arith)
     stretch {R} h (meet {j = j} d rest has walks f e) =
         let r = short h (stretch h f) in
-        stopped (meet d (r .cost) has walks (r .finishes) refl) (omega arith) (omega arith) (omega (arith, ones-without R j has, rw (ones-without R j has) at (r .short)))
+        stopped (meet d (r .cost) has walks (r .finishes) refl) (omega arith) (omega arith)
+        (omega (arith, ones-without R j has, rw (ones-without R j has) at (r .short)))
     stretch h (drive k x w rest s leads f e) =
         let r = stretch (leads-joins sound leads .end) f in
         record {

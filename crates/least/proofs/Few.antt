@@ -19,10 +19,12 @@ few-map : (k : ℕ) {P : ℕ → Type 0} (Q : ℕ → Type 0) (to back : ℕ →
 unfolding Few
 few-map zero Q to back into same few = λ x p. few (to x) (into x p)
 few-map (suc k) Q to back into same few = λ x p.
-    few-map k (Without Q (to x)) to back (λ y q. (into y (q .0), λ e. q .1 (cc (same x p, same y (q .0))))) (λ y q. same y (q .0)) (few (to x) (into x p))
+    few-map k (Without Q (to x)) to back (λ y q. (into y (q .0), λ e. q .1 (cc (same x p, same y (q .0))))) (λ y q. same y (q .0))
+    (few (to x) (into x p))
 
 -- Without x, the numbers above x move down by one.
 pub few-below : (n : ℕ) → Few n (λ x. x < n)
 unfolding Few
 few-below zero = λ x p. omega arith
-few-below (suc n) = λ x p. few-map n (λ y. y < n) (λ y. y - min 1 (y - x)) (λ y. y + min 1 (suc y - x)) (λ y q. omega arith) (λ y q. omega arith) (few-below n)
+few-below (suc n) =
+    λ x p. few-map n (λ y. y < n) (λ y. y - min 1 (y - x)) (λ y. y + min 1 (suc y - x)) (λ y q. omega arith) (λ y q. omega arith) (few-below n)

@@ -38,7 +38,11 @@ module _ {Arc : Arcs} {Init : Inits} where
   last x k shorten {u} (step v w rest a t e) = elim (last x k shorten t) [
     | inr s ↦ inr (record { sum = s .sum; trip = s .trip; cheap = omega arith; fewer = omega arith; short = s .short })
     | inl s ↦ elim (ℕ-discrete u x) [
-      | yes h ↦ (let r = shorten v rest (s .0) in inr (record { sum = w + r .sum; trip = step v w (r .sum) (rw h at (a .1)) (r .trip) refl; cheap = omega arith; fewer = omega arith; short = omega arith }))
+      | yes h ↦ (
+          let r = shorten v rest (s .0) in
+          let back = step v w (r .sum) (rw h at (a .1)) (r .trip) refl in
+          inr (record { sum = w + r .sum; trip = back; cheap = omega arith; fewer = omega arith; short = omega arith })
+          )
       | no h ↦ inl (step v w rest ((a .0, h), a .1) (s .0) e, ap suc (s .1))
     ]
   ]
@@ -46,7 +50,8 @@ module _ {Arc : Arcs} {Init : Inits} where
   among-few : (k : ℕ) {P : ℕ → Type 0} → Few k P → (u sum : ℕ) (t : Among P Arc Init u sum) → Shortened Arc Init k u sum (arcCount t)
   unfolding Few
   among-few zero few u sum t = absurd (few u (stands t))
-  among-few (suc k) {P} few u sum t = ⊎-elim (λ s. absurd (stands {P = Without P u} (s .0) .1 refl)) (λ s. s) (last u k (among-few k (few u (stands t))) t)
+  among-few (suc k) {P} few u sum t =
+      ⊎-elim (λ s. absurd (stands {P = Without P u} (s .0) .1 refl)) (λ s. s) (last u k (among-few k (few u (stands t))) t)
 
   -- Every trip from a node u below n has one of no larger sum, no more arcs and fewer than n arcs. By induction on the number of
   -- nodes that the trip may stand at, n at first: leave out all that comes before its last visit to u. What follows the next arc

@@ -57,7 +57,12 @@ module _ {network : List ℕ} (sound : SoundNetwork network) where
     least-bounded : {least sum : ℕ} → ((d : ℕ) → WalkTrip network start v d → least ≤ d) → WalkTrip network start v sum
         → least ≤ longestWalk
     least-bounded lowest t =
-        omega (arith, sound .nodes, bounded (closed - 1) 0 (λ u x w a. omega (arith, walk-joins sound (a .1) .cheap)) (λ u c i. omega arith) inside h lowest t)
+        omega (
+          arith,
+          sound .nodes,
+          bounded (closed - 1) 0 (λ u x w a. omega (arith, walk-joins sound (a .1) .cheap))
+              (λ u c i. omega arith) inside h lowest t,
+        )
 
     pub walking-bounded : {d : ℕ} → WalkingDistance network start v d → d ≤ longestWalk
     walking-bounded walks = least-bounded (λ sum t. walks .least _ sum (trip-walk t .1)) (walk-trip (walks .walked))

@@ -5,7 +5,8 @@ use mathlib.Core.List.{List}
 use native.Mathlib.Omega.{arith}
 use denote.Ref.{RefT}
 use Rattle.rules.specs.Network.{Part}
-use Rattle.rules.specs.Answers.{Outcome, verdictOutcome, pricedOutcome, plannedOutcome, Walking, Walked, Pricing, refused, stranded, priced, PricedRoute, Tablet, tabletNumber, Searching, hopeless, planned, Searched}
+use Rattle.rules.specs.Answers.{Outcome, verdictOutcome, pricedOutcome, plannedOutcome, Walking, Walked, Pricing, refused, stranded}
+use Rattle.rules.specs.Answers.{priced, PricedRoute, Tablet, tabletNumber, Searching, hopeless, planned, Searched}
 use Rattle.rules.specs.declared.Refusal.{Refusal}
 use Rattle.rules.specs.declared.Request.{Request}
 use Rattle.rules.specs.declared.Verdict.{Verdict}
@@ -98,7 +99,8 @@ searching-unique (hopeless v d t h x m) (hopeless w e u i y n) = (lent-same (dis
 searching-unique (hopeless v d t h x m) (planned plan c w e u p y n) = absurd (h _ _ (p .best .finishes))
 searching-unique (planned plan c v d t p x m) (refused r w y n) = (cc, cc)
 searching-unique (planned plan c v d t p x m) (hopeless w e u h y n) = absurd (h _ _ (p .best .finishes))
-searching-unique (planned plan c v d t p x m) (planned other k w e u r y n) = let s = right-plan-unique p r in (lent-same (distances-unique d e) (table-unique t u) (cc), cc)
+searching-unique (planned plan c v d t p x m) (planned other k w e u r y n) =
+    let s = right-plan-unique p r in (lent-same (distances-unique d e) (table-unique t u) (cc), cc)
 
 -- The search of a request has one answer and leaves one content in each of the three rooms.
 pub searched-unique : {network : List ℕ} (request : List ℕ) {before a b : Lent} {x y : Outcome}

@@ -10,6 +10,7 @@ pub mod Refusals
 pub mod LinkLaws
 pub mod WalkLaws
 pub mod RiderLaws
+pub mod RouteLaws
 pub mod PriceLaws
 pub mod PlanLaws
 pub mod RoomLaws

@@ -30,7 +30,9 @@ pub price-unique : {network : List ℕ} {q : Request} {route meetings others : L
     → length others ≡ riderCountOf q → Price network q route meetings c → Price network q route others d
     → (c ≡ d) × (meetings ≡ others)
 price-unique {q} m n a b =
-    let walking = sum-same (riderCountOf q) (weighed (a .walking)) (weighed (b .walking)) (λ j h. ap (λ (d : ℕ). riderWeightOf q j * d) (meeting-unique (a .meets j h) (b .meets j h) .1)) in
+    let same : (j : ℕ) → j < riderCountOf q → weighed (a .walking) j ≡ weighed (b .walking) j =
+    λ j h. ap (λ (d : ℕ). riderWeightOf q j * d) (meeting-unique (a .meets j h) (b .meets j h) .1) in
+    let walking = sum-same (riderCountOf q) (weighed (a .walking)) (weighed (b .walking)) same in
     (cc (way-sum (a .drives) (b .drives)), ext-getD 0 _ _ (cc) (λ i h. meeting-unique (a .meets i (rw m at h)) (b .meets i (rw m at h)) .0))
   where
     weighed : (ℕ → ℕ) → ℕ → ℕ

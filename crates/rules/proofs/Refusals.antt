@@ -8,7 +8,8 @@ use mathlib.Core.List.{List, [], _∷_, _++_}
 use Rattle.rules.specs.Checks.{Check, check, refuse, firstOf, each}
 use Rattle.rules.specs.Limits.{mostRiders}
 use Rattle.rules.specs.Network.{linkCount, openingChecks, sizeChecks, linkChecks, networkChecks}
-use Rattle.rules.specs.Request.{riderCount, countChecks, riderNodeChecks, nodeChecks, riderWeightChecks, weightChecks, requestChecks, recordChecks}
+use Rattle.rules.specs.Request.{riderCount, countChecks, riderNodeChecks, nodeChecks, riderWeightChecks, weightChecks, requestChecks}
+use Rattle.rules.specs.Request.{recordChecks}
 use Rattle.rules.specs.Rooms.{Lent}
 use Rattle.rules.specs.Answers.{searchChecks}
 use Rattle.rules.specs.declared.Refusal.{Refusal}
@@ -59,7 +60,8 @@ module _ {P : Refusal → Type 0} where
   each-given checks zero first one = none-given
   each-given checks (suc count) first one =
       append-given (checks first) (rw add-zero at (one 0 (omega arith)))
-      (λ passes. each-given checks count (suc first) (λ k h. let moved : suc first + k ≡ first + suc k = omega arith in rw moved (one (suc k) (omega arith))))
+      (λ passes. each-given checks count (suc first)
+      (λ k h. let moved : suc first + k ≡ first + suc k = omega arith in rw moved (one (suc k) (omega arith))))
 
 -- A number below the limit, and a place of 16 bits: a link of a record or of a route, or a rider.
 pub record Small (limit : ℕ) (r : Refusal) : Type 0 where
@@ -96,7 +98,8 @@ module _ (limit : ℕ) where
     network-small s =
         append-given (openingChecks 1 1 4 s) (opening-small 1 1 4 s (omega arith))
         (λ opens. append-given (sizeChecks s) (sizes-small s)
-        (λ fits. each-given (linkChecks s) (linkCount s) 0 (λ k h. check-small _ (omega arith) (omega (arith, sizes-accepted s fits .links)) none-given)))
+        (λ fits. each-given (linkChecks s) (linkCount s) 0
+        (λ k h. check-small _ (omega arith) (omega (arith, sizes-accepted s fits .links)) none-given)))
 
     counts-small : (s : List ℕ) → Gives (Small limit) (countChecks s)
     unfolding countChecks
@@ -120,7 +123,8 @@ module _ (limit : ℕ) where
         append-given (networkChecks network) (network-small network)
         (λ read. append-given (openingChecks 11 1 2 s) (opening-small 11 1 2 s (omega arith))
         (λ opens. append-given (countChecks s) (counts-small s)
-        (λ counted. let few = count-accepted s counted .riders in append-given (nodeChecks _ s) (nodes-small _ s few) (λ placed. weights-small s few))))
+        (λ counted. let few = count-accepted s counted .riders in append-given (nodeChecks _ s) (nodes-small _ s few)
+        (λ placed. weights-small s few))))
 
   -- Those of the search's checks are numbered up to 23.
   pub search-small : 23 < limit → (network request : List ℕ) (rooms : Lent) → Gives (Small limit) (searchChecks network request rooms)

@@ -8,7 +8,8 @@ use lib.ListN.{length}
 use borrow.Author.Tests.{leb-false, lt-leb, eq-eqb}
 use Rattle.rules.specs.Checks.{firstOf, each}
 use Rattle.rules.specs.Limits.{mostNodes, mostLinks}
-use Rattle.rules.specs.Network.{openingChecks, nodeCount, linkCount, linkStart, from, to, sizeChecks, linkChecks, networkChecks, networkVerdict, SoundNetwork}
+use Rattle.rules.specs.Network.{openingChecks, nodeCount, linkCount, linkStart, from, to, sizeChecks, linkChecks, networkChecks}
+use Rattle.rules.specs.Network.{networkVerdict, SoundNetwork}
 use Rattle.rules.specs.declared.Verdict.the-variants.{Accepted}
 use Rattle.rules.proofs.Order.{accepted-head, accepted-front, accepted-rest, accepted-each, front-passed, all-pass}
 use Rattle.rules.proofs.TestLaws.{neither, same, within, not-outside}

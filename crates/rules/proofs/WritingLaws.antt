@@ -51,4 +51,6 @@ module _ {values : ℕ → ℕ} where
       long = length-take-le i t (omega (arith, so .within, so .kept .size))
 
       front : take i t ≡ xs
-      front = ext-getD 0 (take i t) xs (long ∙ sym size) (λ j h. getD-take i t j 0 (omega (arith, long)) ∙ so .holds j (omega (arith, long)) ∙ same j (omega (arith, long)))
+      front =
+          ext-getD 0 (take i t) xs (long ∙ sym size)
+          (λ j h. getD-take i t j 0 (omega (arith, long)) ∙ so .holds j (omega (arith, long)) ∙ same j (omega (arith, long)))

@@ -152,7 +152,8 @@ roomChecks n l distances table steps =
 abbrev pub searchChecks : List ℕ → List ℕ → Lent → List Check
 searchChecks network request rooms =
     recordChecks network request
-    ++ roomChecks (nodeCount network) (riderCountOf (requestValue request)) (length (rooms .distances)) (length (rooms .table)) (length (rooms .steps))
+    ++ roomChecks (nodeCount network) (riderCountOf (requestValue request)) (length (rooms .distances)) (length (rooms .table))
+    (length (rooms .steps))
 
 -- How the search ends, once the verdict on its records and rooms is known. Where there is no plan it is refusal 24, which fills
 -- distances and table all the same (4.4, 4.8).
