@@ -8,16 +8,16 @@ ghost use Rattle.rules.specs.Checks;
 ghost use Rattle.rules.specs.Checks.{firstOf};
 ghost use Rattle.rules.specs.Network.{openingChecks};
 
-// The three refusals that a record opens with, 1 to 3 or 11 to 13, of which `lowest` is the first. Its stated length
-// has `size` bytes.
-pub fn opening_verdict(bytes: &[u8], lowest: u16, size: usize) -> Verdict
+// The three refusals that a record opens with, 1 to 3 or 11 to 13, of which `lowest` is the first. Versions 1 to `latest`
+// are known, and the stated length has `size` bytes.
+pub fn opening_verdict(bytes: &[u8], lowest: u16, latest: usize, size: usize) -> Verdict
     requires { ⌜ (lowest ≤ 11) × (size ≤ 4) ⌝ }
-    ensures { λ r. ⌜ r ≡ firstOf (openingChecks lowest size (now (bytes .entry))) ⌝ }
+    ensures { λ r. ⌜ r ≡ firstOf (openingChecks lowest latest size (now (bytes .entry))) ⌝ }
 {
     if bytes.len() < 9 {
         return refused(lowest, 0);
     }
-    if inner::byte(bytes, 0) != 1 {
+    if outside(1, latest, inner::byte(bytes, 0)) {
         return refused(lowest + 1, 0);
     }
     if inner::number(bytes, 1, size) != bytes.len() {

@@ -2,6 +2,8 @@
 use crate::common::opening_verdict;
 use crate::common::outside;
 use crate::inner;
+use rules::MOST_LINKS;
+use rules::MOST_NODES;
 use rules::NetworkRead;
 use rules::Verdict;
 use rules::refused;
@@ -47,7 +49,7 @@ pub fn link(network: &[u8], k: usize) -> &[u8]
 pub fn network_verdict(network: &[u8]) -> Verdict
     ensures { λ r. ⌜ r ≡ networkVerdict (now (network .entry)) ⌝ }
 {
-    let opening = opening_verdict(network, 1, 4);
+    let opening = opening_verdict(network, 1, 1, 4);
     let Verdict::Accepted = opening else {
         return opening;
     };
@@ -63,11 +65,11 @@ fn sizes_verdict(network: &[u8]) -> Verdict
     requires { ⌜ 9 ≤ length (now network) ⌝ }
     ensures { λ r. ⌜ r ≡ firstOf (sizeChecks (now (network .entry))) ⌝ }
 {
-    if outside(1, 512, inner::node_count(network)) {
+    if outside(1, MOST_NODES, inner::node_count(network)) {
         return refused(4, 0);
     }
     let m = inner::link_count(network);
-    if outside(0, 2048, m) {
+    if outside(0, MOST_LINKS, m) {
         return refused(4, 0);
     }
     if network.len() != 9 + 8 * m {

@@ -3,6 +3,8 @@ use crate::common::opening_verdict;
 use crate::common::outside;
 use crate::inner;
 use crate::network::network_verdict;
+use rules::MOST_RIDERS;
+use rules::MOST_WEIGHT;
 use rules::Request;
 use rules::RequestRead;
 use rules::Verdict;
@@ -40,8 +42,8 @@ fn no_request() -> Request
         target: 0,
         bus_weight: 0,
         rider_count: 0,
-        nodes: [0; 7],
-        weights: [0; 7],
+        nodes: [0; MOST_RIDERS],
+        weights: [0; MOST_RIDERS],
     }
 }
 
@@ -62,11 +64,11 @@ fn request_value(request: &[u8]) -> Request
 }
 
 // The riders' nodes, with 0 in the places behind them.
-fn rider_nodes(request: &[u8], count: usize) -> [usize; 7]
+fn rider_nodes(request: &[u8], count: usize) -> [usize; MOST_RIDERS]
     requires { ⌜ (count ≤ 7) × (riderStart count ≤ length (now request)) ⌝ }
     ensures { λ r. ⌜ r ≡ sevenPlaces (riderNode (now (request .entry))) count ⌝ }
 {
-    let mut nodes = [0usize; 7];
+    let mut nodes = [0usize; MOST_RIDERS];
     let mut j = 0;
     while j < count {
         nodes[j] = inner::rider_node(request, j);
@@ -76,11 +78,11 @@ fn rider_nodes(request: &[u8], count: usize) -> [usize; 7]
 }
 
 // The riders' weights, with 0 in the places behind them.
-fn rider_weights(request: &[u8], count: usize) -> [u64; 7]
+fn rider_weights(request: &[u8], count: usize) -> [u64; MOST_RIDERS]
     requires { ⌜ (count ≤ 7) × (riderStart count ≤ length (now request)) ⌝ }
     ensures { λ r. ⌜ r ≡ sevenPlaces (riderWeight (now (request .entry))) count ⌝ }
 {
-    let mut weights = [0u64; 7];
+    let mut weights = [0u64; MOST_RIDERS];
     let mut j = 0;
     while j < count {
         weights[j] = inner::rider_weight(request, j) as u64;
@@ -104,7 +106,7 @@ fn request_verdict(network: &[u8], request: &[u8]) -> Verdict
 fn own_verdict(request: &[u8], n: usize) -> Verdict
     ensures { λ r. ⌜ r ≡ firstOf (requestChecks n (now (request .entry))) ⌝ }
 {
-    let opening = opening_verdict(request, 11, 2);
+    let opening = opening_verdict(request, 11, 1, 2);
     let Verdict::Accepted = opening else {
         return opening;
     };
@@ -125,7 +127,7 @@ fn count_verdict(request: &[u8]) -> Verdict
     ensures { λ r. ⌜ r ≡ firstOf (countChecks (now (request .entry))) ⌝ }
 {
     let count = inner::rider_count(request);
-    if 7 < count {
+    if MOST_RIDERS < count {
         return refused(14, 0);
     }
     if request.len() != 9 + 3 * count {
@@ -171,7 +173,7 @@ fn weights_verdict(request: &[u8]) -> Verdict
     requires { ⌜ riderStart (riderCount (now request)) ≤ length (now request) ⌝ }
     ensures { λ r. ⌜ r ≡ firstOf (weightChecks (now (request .entry))) ⌝ }
 {
-    if outside(1, 100, inner::bus_weight(request)) {
+    if outside(1, MOST_WEIGHT, inner::bus_weight(request)) {
         return refused(17, 0);
     }
     rider_weights_verdict(request)
@@ -185,7 +187,7 @@ fn rider_weights_verdict(request: &[u8]) -> Verdict
     let count = inner::rider_count(request);
     let mut j = 0;
     while j < count {
-        if outside(1, 100, inner::rider_weight(request, j)) {
+        if outside(1, MOST_WEIGHT, inner::rider_weight(request, j)) {
             return refused(17, 1 + j);
         }
         j += 1;

@@ -13,13 +13,13 @@ unfolding networkVerdict networkChecks
 returns c = stops _ _ (c .enum-told2 .given .0 .0) (c .before .before .opening-verdict .ensures) (c .enum-told2 .given .1)
 
 sizes-verdict-requires : tie.Need-sizes-verdict-requires
-sizes-verdict-requires c κs = opening-accepted 1 4 _ (sym (c .before .before .opening-verdict .ensures) ∙ c .enum-told .given .1) .long
+sizes-verdict-requires c κs = opening-accepted 1 1 4 _ (sym (c .before .before .opening-verdict .ensures) ∙ c .enum-told .given .1) .long
 
 returns-2 : tie.Need-returns-2
 unfolding networkVerdict networkChecks
 returns-2 c =
     stops _ _ (c .enum-told4 .given .0 .0) (c .before .before .sizes-verdict .ensures) (c .enum-told4 .given .1)
-    ∙ goes-on (openingChecks 1 4 _) _ (c .before .before .before .before .before .opening-verdict .ensures) (c .before .before .before .enum-told .given .1)
+    ∙ goes-on (openingChecks 1 1 4 _) _ (c .before .before .before .before .before .opening-verdict .ensures) (c .before .before .before .enum-told .given .1)
 
 links-verdict-requires : tie.Need-links-verdict-requires
 links-verdict-requires c κs =
@@ -30,7 +30,7 @@ unfolding networkVerdict networkChecks
 returns-3 c =
     c .links-verdict .ensures
     ∙ goes-on (sizeChecks _) _ (c .before .before .before .sizes-verdict .ensures) (c .before .enum-told3 .given .1)
-    ∙ goes-on (openingChecks 1 4 _) _ (c .before .before .before .before .before .before .opening-verdict .ensures) (c .before .before .before .before .enum-told .given .1)
+    ∙ goes-on (openingChecks 1 1 4 _) _ (c .before .before .before .before .before .before .opening-verdict .ensures) (c .before .before .before .before .enum-told .given .1)
 
 pub network-verdict-spec : {M : Type 1} → statement M
 network-verdict-spec =

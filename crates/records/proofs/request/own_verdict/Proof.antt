@@ -14,13 +14,13 @@ unfolding requestChecks
 returns c = stops _ _ (c .enum-told2 .given .0 .0) (c .before .before .opening-verdict .ensures) (c .enum-told2 .given .1)
 
 count-verdict-requires : tie.Need-count-verdict-requires
-count-verdict-requires c κs = opening-accepted 11 2 _ (sym (c .before .before .opening-verdict .ensures) ∙ c .enum-told .given .1) .long
+count-verdict-requires c κs = opening-accepted 11 1 2 _ (sym (c .before .before .opening-verdict .ensures) ∙ c .enum-told .given .1) .long
 
 returns-2 : tie.Need-returns-2
 unfolding requestChecks
 returns-2 c =
     stops _ _ (c .enum-told4 .given .0 .0) (c .before .before .count-verdict .ensures) (c .enum-told4 .given .1)
-    ∙ goes-on (openingChecks 11 2 _) _ (c .before .before .before .before .before .opening-verdict .ensures) (c .before .before .before .enum-told .given .1)
+    ∙ goes-on (openingChecks 11 1 2 _) _ (c .before .before .before .before .before .opening-verdict .ensures) (c .before .before .before .enum-told .given .1)
 
 nodes-verdict-requires : tie.Need-nodes-verdict-requires
 nodes-verdict-requires c κs =
@@ -31,7 +31,7 @@ unfolding requestChecks
 returns-3 c =
     stops _ _ (c .enum-told6 .given .0 .0) (c .before .before .nodes-verdict .ensures) (c .enum-told6 .given .1)
     ∙ goes-on (countChecks _) _ (c .before .before .before .before .before .count-verdict .ensures) (c .before .before .before .enum-told3 .given .1)
-    ∙ goes-on (openingChecks 11 2 _) _ (c .before .before .before .before .before .before .before .before .opening-verdict .ensures) (c .before .before .before .before .before .before .enum-told .given .1)
+    ∙ goes-on (openingChecks 11 1 2 _) _ (c .before .before .before .before .before .before .before .before .opening-verdict .ensures) (c .before .before .before .before .before .before .enum-told .given .1)
 
 weights-verdict-requires : tie.Need-weights-verdict-requires
 weights-verdict-requires c κs =
@@ -43,7 +43,7 @@ returns-4 c =
     c .weights-verdict .ensures
     ∙ goes-on (nodeChecks _ _) _ (c .before .before .before .nodes-verdict .ensures) (c .before .enum-told5 .given .1)
     ∙ goes-on (countChecks _) _ (c .before .before .before .before .before .before .count-verdict .ensures) (c .before .before .before .before .enum-told3 .given .1)
-    ∙ goes-on (openingChecks 11 2 _) _ (c .before .before .before .before .before .before .before .before .before .opening-verdict .ensures) (c .before .before .before .before .before .before .before .enum-told .given .1)
+    ∙ goes-on (openingChecks 11 1 2 _) _ (c .before .before .before .before .before .before .before .before .before .opening-verdict .ensures) (c .before .before .before .before .before .before .before .enum-told .given .1)
 
 pub own-verdict-spec : {M : Type 1} → statement M
 own-verdict-spec =
