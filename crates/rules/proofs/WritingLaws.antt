@@ -6,14 +6,8 @@ use native.Mathlib.Omega.{arith}
 use borrow.Author.Count.{below-more}
 use lib.ListN.{length, getD, set, take, drop, take-append-drop}
 use lib.Seq.{ext-getD, getD-take, getD-set-same, getD-set-other, drop-drop, length-take-le}
-use Rattle.rules.specs.Rooms.{Kept, Written}
+use Rattle.rules.specs.Rooms.{Kept, Written, WrittenTo}
 use Rattle.rules.proofs.RoomLaws.{kept-none, kept-then, kept-set}
-
--- The first i places hold their values, and the later ones what they held before.
-pub record WrittenTo (values : ℕ → ℕ) (i : ℕ) (before after : List ℕ) : Type 0 where
-  pub within : i ≤ length before
-  pub kept : Kept i before after
-  pub holds : (j : ℕ) → j < i → getD after j 0 ≡ values j
 
 -- What was kept from a place on was kept from a later one on.
 pub kept-later : {i k : ℕ} {before after : List ℕ} → i ≤ k → Kept i before after → Kept k before after

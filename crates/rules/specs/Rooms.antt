@@ -20,6 +20,12 @@ pub record Kept (filled : ℕ) (before after : List ℕ) : Type 0 where
 abbrev pub Written : List ℕ → List ℕ → List ℕ → Type 0
 Written values before after = after ≡ values ++ drop (length values) before
 
+-- The first i places hold their values, and the later ones what they held before.
+pub record WrittenTo (values : ℕ → ℕ) (i : ℕ) (before after : List ℕ) : Type 0 where
+  pub within : i ≤ length before
+  pub kept : Kept i before after
+  pub holds : (j : ℕ) → j < i → getD after j 0 ≡ values j
+
 -- how many places n nodes and l riders need of each room (4.4)
 abbrev pub distancePlaces : ℕ → ℕ → ℕ
 distancePlaces n l = l * n

@@ -1,4 +1,3 @@
 -- Laws of engines that relax arcs.
 pub mod RelaxingLaws
-pub mod WalkLinkLaws
-pub mod DriveLinkLaws
+pub mod LinkLaws

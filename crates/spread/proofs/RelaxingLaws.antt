@@ -1,25 +1,19 @@
 -- Relaxing keeps tentative sums tentative; when nothing changes any more, they are the least.
 use Prim.Native.Nat.{ℕ, zero, suc, _+_, _<_, _≤_}
 use native.Mathlib.Omega.{arith}
-use native.Mathlib.Decide.{ℕ-discrete}
 use borrow.Author.Count.{below-more}
-use mathlib.Core.Path.{_≡_, refl, _∙_, ap}
+use mathlib.Core.Path.{refl, _∙_, ap}
 use mathlib.Core.List.{List, [], _∷_}
-use lib.ListN.{length, getD, set, drop, length-set}
-use lib.Seq.{getD-set-same, getD-set-other, drop-set-lt}
+use lib.ListN.{length, getD, set}
 use Rattle.rules.specs.Rooms.{Kept}
+use Rattle.rules.proofs.RoomLaws.{at-set, kept-none, kept-then, kept-set}
 use Rattle.least.specs.Trips.{Arcs, Inits, Inside}
 use Rattle.least.specs.Least.{Tentative}
 use Rattle.least.specs.Spread.{Spread}
-use Rattle.least.specs.Walking.{Linked}
+use Rattle.least.specs.WalkTrips.{Linked}
 use Rattle.least.proofs.Trips.{tentative, relax, fixpoint}
-use Rattle.spread.specs.Walking.{LentRoom}
-use Rattle.spread.specs.Relaxing.{Relaxing, still, lowered, RelaxedLink, RelaxedBelow, total, Progress}
-
--- a property of every place after one store
-pub at-set : (P : ℕ → ℕ → Type 0) (t : List ℕ) (u x : ℕ) → u < length t → P u x → (i : ℕ) → P i (getD t i 0) → P i (getD (set t u x) i 0)
-at-set P t u x h p i q =
-    elim (ℕ-discrete i u) [ yes e ↦ rw (e, getD-set-same t u x 0 h) p | no e ↦ rw (getD-set-other t u i x 0 e) q ]
+use Rattle.spread.specs.Lent.{LentRoom}
+use Rattle.spread.specs.Relaxing.{Relaxing, still, lowered, NoArc, OneArc, RelaxedLink, RelaxedBelow, total, Progress}
 
 lower-total : (t : List ℕ) (u x : ℕ) → x < getD t u 0 → total (set t u x) < total t
 unfolding total
@@ -29,20 +23,16 @@ lower-total (y ∷ t) (suc u) x h = omega (arith, lower-total t u x h)
 
 module _ {n : ℕ} {Arc : Arcs} {before : List ℕ} where
   pub relaxing-kept : {after : List ℕ} → Relaxing n Arc before after → Kept n before after
-  relaxing-kept (still e) = record { size = ap length e; later = ap (drop n) e }
-  relaxing-kept (lowered mid u v w so h arc less e) =
-      let kept = relaxing-kept so in
-      record {
-        size = ap length e ∙ length-set mid u _ ∙ kept .size;
-        later = ap (drop n) e ∙ drop-set-lt n mid u _ h ∙ kept .later;
-      }
+  relaxing-kept (still e) = rw e kept-none
+  relaxing-kept (lowered mid u v w so h arc less e) = rw e (kept-then (relaxing-kept so) (kept-set mid u _ h))
 
   -- what an engine is lent stays fit for it
   pub lent-after : {network after : List ℕ} → LentRoom network before → Relaxing n Arc before after → LentRoom network after
   lent-after lent so = record { sound = lent .sound; places = omega (arith, relaxing-kept so .size) }
 
   module _ {cap : ℕ} {Init : Inits} (inside : Inside n Arc) (fits : n ≤ length before) where
-    pub relaxing-sums : {after : List ℕ} → ((u : ℕ) → u < n → Tentative cap Arc Init u (getD before u 0)) → Relaxing n Arc before after → (u : ℕ) → u < n → Tentative cap Arc Init u (getD after u 0)
+    pub relaxing-sums : {after : List ℕ} → ((u : ℕ) → u < n → Tentative cap Arc Init u (getD before u 0))
+        → Relaxing n Arc before after → (u : ℕ) → u < n → Tentative cap Arc Init u (getD after u 0)
     relaxing-sums sums (still e) i h = rw e (sums i h)
     relaxing-sums sums (lowered mid u v w so h arc less e) i g =
         let earlier = relaxing-sums sums so in
@@ -57,7 +47,8 @@ module _ {n : ℕ} {Arc : Arcs} where
   pub progress-none : {Settled : List ℕ → Type 0} {t : List ℕ} → Settled t → Progress n Arc Settled t t 0
   progress-none s = record { relaxing = still refl; quiet = λ e. (refl, s); falls = λ h. absurd (omega arith) }
 
-  pub progress-one : {Settled : List ℕ → Type 0} (t : List ℕ) (u v w : ℕ) → u < n → Arc u v w → w + getD t v 0 < getD t u 0 → Progress n Arc Settled t (set t u (w + getD t v 0)) 1
+  pub progress-one : {Settled : List ℕ → Type 0} (t : List ℕ) (u v w : ℕ) → u < n → Arc u v w → w + getD t v 0 < getD t u 0
+      → Progress n Arc Settled t (set t u (w + getD t v 0)) 1
   progress-one t u v w h arc less =
       record {
         relaxing = lowered t u v w (still refl) h arc less refl;
@@ -65,16 +56,13 @@ module _ {n : ℕ} {Arc : Arcs} where
         falls = λ g. lower-total t u _ less;
       }
 
-  -- a link whose only arc makes no sum smaller
-  pub only-arc : (Link : ℕ → Arcs) (k : ℕ) {t : List ℕ} {u v w : ℕ} → ((x y z : ℕ) → Link k x y z → (x ≡ u) × (y ≡ v) × (z ≡ w)) → getD t u 0 ≤ w + getD t v 0 → Progress n Arc (RelaxedLink Link k) t t 0
-  only-arc Link k only h = progress-none (λ x y z link. let (a, b, c) = only x y z link in rw (a, b, c) h)
-
   no-rise : {S : List ℕ → Type 0} {before after : List ℕ} (changes : ℕ) → Progress n Arc S before after changes → total after ≤ total before
   no-rise zero so = omega (arith, ap total (so .quiet refl .0))
   no-rise (suc changes) so = omega (arith, so .falls (omega arith))
 
   -- one stretch of work after another
-  pub progress-then : {S T Both : List ℕ → Type 0} {before mid after : List ℕ} {c d : ℕ} → ((t : List ℕ) → S t → T t → Both t) → Progress n Arc S before mid c → Progress n Arc T mid after d → Progress n Arc Both before after (c + d)
+  pub progress-then : {S T Both : List ℕ → Type 0} {before mid after : List ℕ} {c d : ℕ} → ((t : List ℕ) → S t → T t → Both t)
+      → Progress n Arc S before mid c → Progress n Arc T mid after d → Progress n Arc Both before after (c + d)
   progress-then {before = before} {after = after} {c = zero} {d} both first second =
       let (same, s) = first .quiet refl in
       record {
@@ -92,11 +80,26 @@ module _ {n : ℕ} {Arc : Arcs} where
       }
 
   -- the links below k and then link k
-  pub next-link : {Link : ℕ → Arcs} {before mid after : List ℕ} {k c d : ℕ} → Progress n Arc (RelaxedBelow Link k) before mid c → Progress n Arc (RelaxedLink Link k) mid after d → Progress n Arc (RelaxedBelow Link (k + 1)) before after (c + d)
+  pub next-link : {Link : ℕ → Arcs} {before mid after : List ℕ} {k c d : ℕ} → Progress n Arc (RelaxedBelow Link k) before mid c
+      → Progress n Arc (RelaxedLink Link k) mid after d → Progress n Arc (RelaxedBelow Link (k + 1)) before after (c + d)
   next-link {Link} {k = k} first second = progress-then (λ t below here. below-more (λ (i : ℕ). RelaxedLink Link i t) k below here) first second
 
--- once no link makes a sum smaller, what stands there is what an engine promises
-pub spreads : {n : ℕ} {Link : ℕ → Arcs} {cap : ℕ} {before after : List ℕ} → Inside n (Linked Link) → n ≤ length before → ((u : ℕ) → u < n → getD before u 0 ≤ cap) → Relaxing n (Linked Link) before after → ((k : ℕ) → RelaxedLink Link k after) → Spread cap n (Linked Link) before after
+-- Relaxing one link: it has no arc, its arc makes no sum smaller, or it makes one.
+module _ {n : ℕ} {Link : ℕ → Arcs} {k : ℕ} {t : List ℕ} where
+  pub link-closed : NoArc Link k → Progress n (Linked Link) (RelaxedLink Link k) t t 0
+  link-closed none = progress-none (λ u v w link. absurd (none .none u v w link))
+
+  module _ {u v w : ℕ} (one : OneArc Link k u v w) where
+    pub link-loose : getD t u 0 ≤ w + getD t v 0 → Progress n (Linked Link) (RelaxedLink Link k) t t 0
+    link-loose h = progress-none (λ x y z link. let (a, b, c) = one .only x y z link in rw (a, b, c) h)
+
+    pub link-lowers : u < n → w + getD t v 0 < getD t u 0 → Progress n (Linked Link) (RelaxedLink Link k) t (set t u (w + getD t v 0)) 1
+    link-lowers h less = progress-one t u v w h (k, one .arc) less
+
+-- Once no link makes a sum smaller, what stands there is what an engine promises
+pub spreads : {n : ℕ} {Link : ℕ → Arcs} {cap : ℕ} {before after : List ℕ} → Inside n (Linked Link) → n ≤ length before
+    → ((u : ℕ) → u < n → getD before u 0 ≤ cap) → Relaxing n (Linked Link) before after → ((k : ℕ) → RelaxedLink Link k after)
+    → Spread cap n (Linked Link) before after
 spreads {before = before} {after} inside fits capped so relaxed =
     record {
       least = fixpoint inside (relaxing-sums inside fits (λ u h. tentative before u (capped u h)) so) (λ u v w h g a. relaxed (a .0) u v w (a .1));

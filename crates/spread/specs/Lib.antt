@@ -1,3 +1,3 @@
+-- What the engines are lent, and what one that relaxes arcs has done so far.
+pub mod Lent
 pub mod Relaxing
-pub mod Walking
-pub mod Driving

@@ -9,7 +9,21 @@ use Rattle.least.specs.Trips.{Arcs}
 pub data Relaxing (n : ℕ) (Arc : Arcs) (before : List ℕ) : List ℕ → Type 0 where
   still : {after : List ℕ} → after ≡ before → Relaxing n Arc before after
   lowered :
-      {after : List ℕ} (mid : List ℕ) (u v w : ℕ) → Relaxing n Arc before mid → u < n → Arc u v w → w + getD mid v 0 < getD mid u 0 → after ≡ set mid u (w + getD mid v 0) → Relaxing n Arc before after
+      {after : List ℕ} (mid : List ℕ) (u v w : ℕ)
+      → Relaxing n Arc before mid
+      → u < n
+      → Arc u v w
+      → w + getD mid v 0 < getD mid u 0
+      → after ≡ set mid u (w + getD mid v 0)
+      → Relaxing n Arc before after
+
+-- Link k has no arc, or just one: from u to v for w.
+pub record NoArc (Link : ℕ → Arcs) (k : ℕ) : Type 0 where
+  pub none : (u v w : ℕ) → Link k u v w → ⊥
+
+pub record OneArc (Link : ℕ → Arcs) (k u v w : ℕ) : Type 0 where
+  pub arc : Link k u v w
+  pub only : (x y z : ℕ) → Link k x y z → (x ≡ u) × (y ≡ v) × (z ≡ w)
 
 -- No arc of link k makes a sum of t smaller.
 abbrev pub RelaxedLink : (ℕ → Arcs) → ℕ → List ℕ → Type 0

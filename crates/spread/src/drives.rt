@@ -4,13 +4,14 @@ use records::inner::from;
 use records::inner::link_count;
 use records::inner::to;
 use rules::CLOSED;
+use rules::inner::packed_step;
 ghost use Prim.Native.Nat.{_≤_, _<_};
 ghost use Rattle.rules.specs.Network.{nodeCount, linkCount};
 ghost use Rattle.rules.specs.Rooms.{noFinish};
 ghost use Rattle.least.specs.Spread.{Spread};
 ghost use Rattle.finish.specs.Packed.{DriveLink, DriveArc};
 ghost use Rattle.spread.specs.Relaxing.{RelaxedLink, RelaxedBelow, Progress};
-ghost use Rattle.spread.specs.Driving.{LentRow};
+ghost use Rattle.spread.specs.Lent.{LentRow};
 
 // Spreads packed sums along links open to a bus of that weight, from the values that stand in the row.
 pub fn spread_drives(network: &[u8], weight: u64, row: &mut [u64])
@@ -44,9 +45,10 @@ fn relax_drive(network: &[u8], weight: u64, k: usize, row: &mut [u64]) -> usize
     if CLOSED <= cost {
         return 0;
     }
-    let step = 4096 * (weight * cost) + 1;
-    let near = row[to(network, k)];
     let start = from(network, k);
+    let end = to(network, k);
+    let step = packed_step(weight * cost);
+    let near = row[end];
     let far = row[start];
     if far <= near {
         return 0;

@@ -8,9 +8,9 @@ ghost use Prim.Native.Nat.{_≤_, _<_};
 ghost use Rattle.rules.specs.Network.{nodeCount, linkCount};
 ghost use Rattle.rules.specs.Walks.{noDistance};
 ghost use Rattle.least.specs.Spread.{Spread};
-ghost use Rattle.least.specs.Walking.{WalkBack};
+ghost use Rattle.least.specs.WalkTrips.{WalkBack};
 ghost use Rattle.spread.specs.Relaxing.{RelaxedLink, RelaxedBelow, Progress};
-ghost use Rattle.spread.specs.Walking.{LentRoom, WalkLink};
+ghost use Rattle.spread.specs.Lent.{LentRoom, WalkLink};
 
 // Spreads distances along links open to walkers, from the values that stand there.
 pub fn spread_walks(network: &[u8], distances: &mut [u32])

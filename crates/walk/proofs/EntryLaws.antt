@@ -11,20 +11,23 @@ use Rattle.rules.specs.declared.Refusal.{Refusal}
 use Rattle.rules.specs.declared.Verdict.{Verdict}
 use Rattle.rules.specs.declared.Verdict.the-variants.{Accepted, Refused}
 use Rattle.rules.proofs.Clash.{clash}
+use Rattle.rules.proofs.RoomLaws.{kept-none}
 use Rattle.rules.proofs.Order.{front-refused, front-passed}
 use Rattle.walk.specs.Row.{Row}
 
 module _ {network : List ℕ} {start : ℕ} {before : List ℕ} where
   -- a refusal leaves the room as it is
-  refusal : {v : Verdict} (r : Refusal) → v ≡ firstOf (walkChecks network start (length before)) → v ≡ Refused r → Walked network start before before (verdictOutcome v)
+  refusal : {v : Verdict} (r : Refusal) → v ≡ firstOf (walkChecks network start (length before)) → v ≡ Refused r
+      → Walked network start before before (verdictOutcome v)
   refusal r is told =
       rw (← is, told) (record {
         answers = refl;
         fills = λ e. clash (cc);
-        kept = record { size = refl; later = refl };
+        kept = kept-none;
       })
 
-  pub network-refused : {v : Verdict} (r : Refusal) → v ≡ networkVerdict network → v ≡ Refused r → Walked network start before before (verdictOutcome v)
+  pub network-refused : {v : Verdict} (r : Refusal) → v ≡ networkVerdict network → v ≡ Refused r
+      → Walked network start before before (verdictOutcome v)
   unfolding networkVerdict
   network-refused r is told =
       refusal r (told ∙ sym (front-refused (networkChecks network) _ r (sym is ∙ told))) told
@@ -43,8 +46,10 @@ module _ {network : List ℕ} {start : ℕ} {before : List ℕ} where
           refusal (refuse 42 0)
           (told ∙ sym (front-passed (networkChecks network) _ sound ∙ rw (← reads-n) (simp (lt-leb _ _ below, lt-ltb _ _ h)))) told
 
-      pub filled : {after : List ℕ} → n ≤ length before → Row network start before after → Walked network start before after (verdictOutcome Accepted)
+      pub filled : {after : List ℕ} → n ≤ length before → Row network start before after
+          → Walked network start before after (verdictOutcome Accepted)
       unfolding networkVerdict firstOf
       filled h row =
-          let passes : firstOf (walkChecks network start (length before)) ≡ Accepted = front-passed (networkChecks network) _ sound ∙ rw (← reads-n) (simp (lt-leb _ _ below, le-ltb _ _ h)) in
+          let passes : firstOf (walkChecks network start (length before)) ≡ Accepted =
+          front-passed (networkChecks network) _ sound ∙ rw (← reads-n) (simp (lt-leb _ _ below, le-ltb _ _ h)) in
           rw passes (record { answers = refl; fills = λ e. row .holds; kept = row .kept })

@@ -1,14 +1,10 @@
 -- What walking leaves in the room that it is lent.
 use Prim.Native.Nat.{ℕ, _<_}
-use mathlib.Core.List.{List, _++_}
-use lib.ListN.{getD, drop, replicate}
+use mathlib.Core.List.{List}
+use lib.ListN.{getD}
 use Rattle.rules.specs.Network.{nodeCount}
-use Rattle.rules.specs.Walks.{HoldsDistance, noDistance}
+use Rattle.rules.specs.Walks.{HoldsDistance}
 use Rattle.rules.specs.Rooms.{Kept}
-
--- none in the first n places
-abbrev pub cleared : ℕ → List ℕ → List ℕ
-cleared n before = replicate n noDistance ++ drop n before
 
 -- Each node's place holds its walking distance from the start; later places are kept.
 pub record Row (network : List ℕ) (start : ℕ) (before after : List ℕ) : Type 0 where

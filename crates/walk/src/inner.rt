@@ -3,11 +3,12 @@ use records::inner::node_count;
 use rules::NO_DISTANCE;
 use spread::inner::spread_walks;
 ghost use Prim.Native.Nat.{_<_, _≤_};
-ghost use mathlib.Core.Path.{_≡_};
 ghost use lib.ListN.{length};
 ghost use Rattle.rules.specs.Network.{nodeCount};
-ghost use Rattle.spread.specs.Walking.{LentRoom};
-ghost use Rattle.walk.specs.Row.{Row, cleared};
+ghost use Rattle.rules.specs.Walks.{noDistance};
+ghost use Rattle.rules.specs.Rooms.{WrittenTo};
+ghost use Rattle.spread.specs.Lent.{LentRoom};
+ghost use Rattle.walk.specs.Row.{Row};
 
 // Fills a place for each node with its walking distance from `start`.
 pub fn walk_from(network: &[u8], start: usize, distances: &mut [u32])
@@ -23,7 +24,7 @@ pub fn walk_from(network: &[u8], start: usize, distances: &mut [u32])
 // Puts none into the first n places.
 fn clear(distances: &mut [u32], n: usize)
     requires { ⌜ n ≤ length (now distances) ⌝ }
-    ensures { λ _. ⌜ now (distances .exit) ≡ cleared n (now (distances .entry)) ⌝ }
+    ensures { λ _. ⌜ WrittenTo (λ v. noDistance) n (now (distances .entry)) (now (distances .exit)) ⌝ }
 {
     let mut v = 0;
     while v < n {

@@ -12,22 +12,37 @@ returns c = network-refused (c .enum-told2 .given .0 .0) (read-verdict _ (c .bef
 
 returns-2 : tie.Need-returns-2
 returns-2 c =
-    refused-41 (read-accepted _ (c .before .before .before .before .read-network .ensures) (c .before .before .enum-told .given .1)) (read-n _ (c .before .before .before .before .read-network .ensures) (c .before .before .enum-told .given .1)) (c .refused .ensures) (c .before .if1 .taken)
+    refused-41 (read-accepted _ (c .before .before .before .before .read-network .ensures)
+    (c .before .before .enum-told .given .1)) (read-n _ (c .before .before .before .before .read-network .ensures)
+    (c .before .before .enum-told .given .1)) (c .refused .ensures) (c .before .if1 .taken)
 
 returns-3 : tie.Need-returns-3
 returns-3 c =
-    refused-42 (read-accepted _ (c .before .before .before .before .before .read-network .ensures) (c .before .before .before .enum-told .given .1)) (read-n _ (c .before .before .before .before .before .read-network .ensures) (c .before .before .before .enum-told .given .1)) (c .before .before .if1 .left) (c .refused2 .ensures) (c .before .if2 .taken)
+    let at-read-network = c .before .before .before .before .before in
+    refused-42 (read-accepted _ (at-read-network .read-network .ensures) (c .before .before .before .enum-told .given .1))
+    (read-n _ (at-read-network .read-network .ensures) (c .before .before .before .enum-told .given .1))
+    (c .before .before .if1 .left) (c .refused2 .ensures) (c .before .if2 .taken)
 
 walk-from-requires : tie.Need-walk-from-requires
 walk-from-requires c κs =
-    let n = read-n _ (c .before .before .before .before .before .read-network .ensures) (c .before .before .before .enum-told .given .1) in (
+    let at-read-network = c .before .before .before .before .before in
+    let n = read-n _ (at-read-network .read-network .ensures) (c .before .before .before .enum-told .given .1) in (
       omega arith,
-      record { sound = network-sound _ (read-accepted _ (c .before .before .before .before .before .read-network .ensures) (c .before .before .before .enum-told .given .1)); places = omega arith },
+      record {
+        sound = network-sound _ (read-accepted _ (at-read-network .read-network .ensures)
+            (c .before .before .before .enum-told .given .1));
+        places = omega arith;
+      },
     )
 
 returns-4 : tie.Need-returns-4
 returns-4 c =
-    filled (read-accepted _ (c .before .before .before .before .before .before .before .before .read-network .ensures) (c .before .before .before .before .before .before .enum-told .given .1)) (read-n _ (c .before .before .before .before .before .before .before .before .read-network .ensures) (c .before .before .before .before .before .before .enum-told .given .1)) (c .before .before .before .before .before .if1 .left) (c .before .before .before .before .if2 .left) (c .before .before .walk-from .ensures)
+    let at-if1 = c .before .before .before .before .before in
+    let at-enum-told = c .before .before .before .before .before .before in
+    let at-read-network = c .before .before .before .before .before .before .before .before in
+    filled (read-accepted _ (at-read-network .read-network .ensures) (at-enum-told .enum-told .given .1))
+    (read-n _ (at-read-network .read-network .ensures) (at-enum-told .enum-told .given .1)) (at-if1 .if1 .left)
+    (c .before .before .before .before .if2 .left) (c .before .before .walk-from .ensures)
 
 pub walk-spec : {M : Type 1} → statement M
 walk-spec =

@@ -1,3 +1,5 @@
+-- Invariant: the links below k were relaxed, with at most one change each, and if nothing changed then none of them makes a sum smaller.
+-- Each turn leaves one link less to go.
 use mathlib.Core.Path.{_≡_}
 use native.Mathlib.Omega.{arith}
 use borrow.Author.Needs.{needs}
@@ -26,22 +28,25 @@ loop-holds c = (omega arith, omega arith, progress-none (λ i h. absurd (omega a
 
 relax-drive-requires : tie.Need-relax-drive-requires Inv-loop μ-loop
 relax-drive-requires c κs =
-    let may = c .before .before .before .before .before .before .pre in
+    let entry = c .before .before .before .before .before .before in
+    let may = entry .pre in
     (omega arith, record { lent = lent-after (may .lent) (c .before .before .loop .inv .2 .relaxing); light = may .light })
 
 loop-again : tie.Need-loop-again Inv-loop μ-loop
-loop-again c = (
-  omega arith,
-  omega arith,
-  next-link (c .before .before .before .before .before .loop .inv .2) (c .before .before .relax-drive .ensures .1),
-)
+loop-again c =
+    let at-loop = c .before .before .before .before .before in (
+      omega arith,
+      omega arith,
+      next-link (at-loop .loop .inv .2) (c .before .before .relax-drive .ensures .1),
+    )
 
 same-length : tie.Need-same-length Inv-loop μ-loop
 same-length c = relaxing-kept (c .before .loop .inv .2 .relaxing) .size
 
 returns : tie.Need-returns Inv-loop μ-loop
 returns c =
-    let all : c .before .loop .k ≡ linkCount (c .before .before .before .before .before .args .network .now) = omega arith in
+    let entry = c .before .before .before .before .before in
+    let all : c .before .loop .k ≡ linkCount (entry .args .network .now) = omega arith in
     rw all at (c .before .loop .inv .2)
 
 pub drive-round-spec : {M : Type 1} → statement M

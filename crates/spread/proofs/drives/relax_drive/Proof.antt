@@ -1,42 +1,84 @@
+-- One link: closed to the bus, no cheaper finish from its start, or a cheaper one.
 use native.Mathlib.Omega.{arith}
 use native.Mathlib.Nat.{mul-le-mul, le-of-lt}
+use Prim.Native.Nat.{_*_, _≤_}
 use borrow.Author.Needs.{needs}
-use Rattle.spread.proofs.DriveLinkLaws.{closed-link, no-help, step}
+use Rattle.rules.specs.Limits.{closed, mostWeight, packedStep}
+use Rattle.rules.proofs.WalkLaws.{Joins, leads-joins}
+use Rattle.finish.specs.Packed.{DriveLink}
+use Rattle.spread.specs.Relaxing.{OneArc}
+use Rattle.spread.proofs.RelaxingLaws.{link-closed, link-loose, link-lowers}
+use Rattle.spread.proofs.LinkLaws.{drive-closed, drive-arc}
 use Rattle.spread.proofs.drives.relax_drive.Statement.{statement}
 use Rattle.spread.proofs.drives.relax_drive.Tie as tie
 
 returns : tie.Need-returns
-returns c = (omega arith, closed-link (c .before .drive .ensures .value) (c .if1 .taken))
+returns c = (omega arith, link-closed (drive-closed (c .before .drive .ensures .value) (c .if1 .taken)))
 
-mul-step : tie.Need-mul-step
-mul-step c = omega (arith, mul-le-mul (c .before .before .before .before .pre .1 .light) (le-of-lt (c .if1 .left)))
+-- What was read is the link's arc, and joins two nodes.
+arc : (c : tie.After-to) →
+    let entry = c .before .before .before .before .before .before in
+    OneArc (DriveLink (entry .args .network .now) (entry .args .weight)) (entry .args .k) (c .before .from .result) (c .to .result)
+    (packedStep (entry .args .weight * c .before .before .before .drive .result))
+arc c =
+    let at-before = c .before .before .before .before .before in
+    let entry = at-before .before in
+    drive-arc (entry .pre .0) (c .before .from .ensures .value) (c .to .ensures .value) (c .before .before .if1 .left) (entry .args .weight)
+    (c .before .before .before .drive .ensures .value)
 
-mul-step-2 : tie.Need-mul-step-2
-mul-step-2 c = omega (arith, mul-le-mul (c .before .before .before .before .pre .1 .light) (le-of-lt (c .if1 .left)))
+joins : (c : tie.After-to) →
+    let entry = c .before .before .before .before .before .before in
+    Joins (entry .args .network .now) (entry .args .k) (c .before .from .result) (c .to .result) (arc c .arc .cost)
+joins c =
+    let at-before = c .before .before .before .before .before in
+    let entry = at-before .before in leads-joins (entry .pre .1 .lent .sound) (arc c .arc .leads)
 
-add-step : tie.Need-add-step
-add-step c = omega (arith, mul-le-mul (c .before .before .before .before .pre .1 .light) (le-of-lt (c .if1 .left)))
+-- A drive costs at most what the dearest link costs the heaviest bus.
+light : (c : tie.After-to) →
+    let entry = c .before .before .before .before .before .before in
+    entry .args .weight * c .before .before .before .drive .result ≤ mostWeight * closed
+light c =
+    let at-before = c .before .before .before .before .before in
+    let entry = at-before .before in
+    mul-le-mul (entry .pre .1 .light) (le-of-lt (c .before .before .if1 .left))
+
+mul-packed-step : tie.Need-mul-packed-step
+mul-packed-step c = omega (arith, light c)
+
+packed-step-requires : tie.Need-packed-step-requires
+packed-step-requires c κs = omega (arith, light c)
 
 slice-read-near : tie.Need-slice-read-near
-slice-read-near c = omega (arith, c .before .before .before .before .before .before .pre .1 .lent .sound .ends (c .before .before .before .before .before .before .args .k) (c .before .before .before .before .before .before .pre .0))
+slice-read-near c = omega (arith, joins (c .before .before))
 
 slice-read-far : tie.Need-slice-read-far
-slice-read-far c = omega (arith, c .before .before .before .before .before .before .before .before .pre .1 .lent .sound .starts (c .before .before .before .before .before .before .before .before .args .k) (c .before .before .before .before .before .before .before .before .pre .0))
+slice-read-far c = omega (arith, joins (c .before .before .before))
 
 returns-2 : tie.Need-returns-2
-returns-2 c = (omega arith, no-help (c .before .before .before .before .before .before .drive .ensures .value) (c .before .before .from .ensures .value) (c .before .before .before .before .to .ensures .value) (omega arith))
+returns-2 c = (omega arith, link-loose (arc (c .before .before .before .before)) (omega arith))
 
 returns-3 : tie.Need-returns-3
-returns-3 c = (omega arith, no-help (c .before .before .before .before .before .before .before .drive .ensures .value) (c .before .before .before .from .ensures .value) (c .before .before .before .before .before .to .ensures .value) (omega arith))
+returns-3 c =
+    let read = c .before .before .before .before .before in
+    (omega arith, link-loose (arc read) (omega arith))
 
 add-row : tie.Need-add-row
-add-row c = omega (arith, c .before .before .slice-known3 .given (c .before .before .before .from .result))
+add-row c =
+    let read = c .before .before .before .before .before in
+    omega (arith, c .before .before .slice-known3 .given (read .before .from .result))
 
 slice-write-row : tie.Need-slice-write-row
-slice-write-row c = omega (arith, c .before .before .before .before .before .before .before .before .before .before .pre .1 .lent .sound .starts (c .before .before .before .before .before .before .before .before .before .before .args .k) (c .before .before .before .before .before .before .before .before .before .before .pre .0))
+slice-write-row c =
+    let read = c .before .before .before .before .before in
+    omega (arith, joins read)
 
 returns-4 : tie.Need-returns-4
-returns-4 c = (omega arith, step (c .before .before .before .before .before .before .before .drive .ensures .value) (c .before .before .before .from .ensures .value) (c .before .before .before .before .before .to .ensures .value) (c .before .before .before .before .before .before .before .before .before .before .pre .0) (omega (arith, c .before .before .before .before .before .before .before .before .before .before .pre .1 .lent .sound .starts (c .before .before .before .before .before .before .before .before .before .before .args .k) (c .before .before .before .before .before .before .before .before .before .before .pre .0))) (c .before .before .before .before .before .before .if1 .left) (omega arith))
+returns-4 c =
+    let read = c .before .before .before .before .before in (
+      omega arith,
+      rw (c .before .before .before .before .packed-step .ensures)
+          (link-lowers (arc read) (joins read .start) (omega (arith, c .before .before .before .before .packed-step .ensures))),
+    )
 
 pub relax-drive-spec : {M : Type 1} → statement M
 relax-drive-spec =
@@ -44,13 +86,12 @@ relax-drive-spec =
     (tie.spec
     (λ c κs. search needs)
     returns
-    mul-step
-    mul-step-2
-    add-step
     (λ c κs. search needs)
+    (λ c κs. search needs)
+    mul-packed-step
+    packed-step-requires
     (λ c. search needs)
     slice-read-near
-    (λ c κs. search needs)
     (λ c. search needs)
     slice-read-far
     returns-2

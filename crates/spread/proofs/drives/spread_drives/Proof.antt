@@ -1,3 +1,5 @@
+-- Invariant: what stands in the row came from the values before by lowering places along arcs. Each further round makes the sum of all
+-- places smaller; a round that changes nothing leaves no arc that would.
 use native.Mathlib.Omega.{arith}
 use mathlib.Core.Path.{refl}
 use Rattle.rules.specs.Network.{nodeCount}
@@ -26,17 +28,25 @@ loop-less : tie.Need-loop-less Inv-loop μ-loop
 loop-less c = c .before .before .before .drive-round .ensures .falls (omega arith)
 
 loop-again : tie.Need-loop-again Inv-loop μ-loop
-loop-again c = relaxing-then (c .before .before .before .before .before .loop .inv) (c .before .before .before .drive-round .ensures .relaxing)
+loop-again c =
+    let at-loop = c .before .before .before .before .before in
+    relaxing-then (at-loop .loop .inv) (c .before .before .before .drive-round .ensures .relaxing)
 
 same-length : tie.Need-same-length Inv-loop μ-loop
-same-length c = relaxing-kept (relaxing-then (c .before .before .before .before .before .loop .inv) (c .before .before .before .drive-round .ensures .relaxing)) .size
+same-length c =
+    let at-loop = c .before .before .before .before .before in
+    relaxing-kept (relaxing-then (at-loop .loop .inv) (c .before .before .before .drive-round .ensures .relaxing)) .size
 
 returns : tie.Need-returns Inv-loop μ-loop
 returns c =
-    let lent = c .before .before .before .before .before .before .before .before .pre .lent in
+    let at-loop = c .before .before .before .before .before in
+    let at-slice-known = c .before .before .before .before .before .before in
+    let entry = c .before .before .before .before .before .before .before .before in
+    let lent = entry .pre .lent in
     let (same, relaxed) = c .before .before .before .drive-round .ensures .quiet (c .if1 .left) in
     spreads {Link = DriveLink _ _} (drives-inside (lent .sound)) (lent .places)
-    (λ u h. omega (arith, c .before .before .before .before .before .before .slice-known .given u)) (relaxing-then (c .before .before .before .before .before .loop .inv) (c .before .before .before .drive-round .ensures .relaxing))
+    (λ u h. omega (arith, at-slice-known .slice-known .given u))
+    (relaxing-then (at-loop .loop .inv) (c .before .before .before .drive-round .ensures .relaxing))
     (λ k u v w link. relaxed k (link .leads .exists) u v w link)
 
 pub spread-drives-spec : {M : Type 1} → statement M

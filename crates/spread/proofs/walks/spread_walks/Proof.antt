@@ -1,9 +1,12 @@
-use Rattle.least.proofs.Walking.{ends-below, inside}
-use Rattle.spread.specs.Walking.{WalkLink}
+-- Invariant: what stands there came from the values before by lowering places along arcs. Each further round makes the sum of all places
+-- smaller; a round that changes nothing leaves no arc that would.
+use Rattle.least.proofs.WalkTrips.{inside}
+use Rattle.rules.proofs.WalkLaws.{walk-joins}
+use Rattle.spread.specs.Lent.{WalkLink}
 use native.Mathlib.Omega.{arith}
 use mathlib.Core.Path.{refl}
 use Rattle.rules.specs.Network.{nodeCount}
-use Rattle.least.specs.Walking.{WalkBack}
+use Rattle.least.specs.WalkTrips.{WalkBack}
 use Rattle.spread.specs.Relaxing.{Relaxing, still, total}
 use Rattle.spread.proofs.RelaxingLaws.{lent-after, relaxing-kept, relaxing-then, spreads}
 use Rattle.spread.proofs.walks.spread_walks.Statement.{statement}
@@ -25,18 +28,26 @@ loop-less : tie.Need-loop-less Inv-loop μ-loop
 loop-less c = c .before .before .before .walk-round .ensures .falls (omega arith)
 
 loop-again : tie.Need-loop-again Inv-loop μ-loop
-loop-again c = relaxing-then (c .before .before .before .before .before .loop .inv) (c .before .before .before .walk-round .ensures .relaxing)
+loop-again c =
+    let at-loop = c .before .before .before .before .before in
+    relaxing-then (at-loop .loop .inv) (c .before .before .before .walk-round .ensures .relaxing)
 
 same-length : tie.Need-same-length Inv-loop μ-loop
-same-length c = relaxing-kept (relaxing-then (c .before .before .before .before .before .loop .inv) (c .before .before .before .walk-round .ensures .relaxing)) .size
+same-length c =
+    let at-loop = c .before .before .before .before .before in
+    relaxing-kept (relaxing-then (at-loop .loop .inv) (c .before .before .before .walk-round .ensures .relaxing)) .size
 
 returns : tie.Need-returns Inv-loop μ-loop
 returns c =
-    let lent = c .before .before .before .before .before .before .before .before .pre in
+    let at-loop = c .before .before .before .before .before in
+    let at-slice-known = c .before .before .before .before .before .before in
+    let entry = c .before .before .before .before .before .before .before .before in
+    let lent = entry .pre in
     let (same, relaxed) = c .before .before .before .walk-round .ensures .quiet (c .if1 .left) in
-    spreads {Link = WalkLink _} (inside (ends-below (lent .sound))) (lent .places)
-    (λ u h. omega (arith, c .before .before .before .before .before .before .slice-known .given u)) (relaxing-then (c .before .before .before .before .before .loop .inv) (c .before .before .before .walk-round .ensures .relaxing))
-    (λ k u v w link. relaxed k (link .exists) u v w link)
+    spreads {Link = WalkLink _} (inside (lent .sound)) (lent .places)
+    (λ u h. omega (arith, at-slice-known .slice-known .given u))
+    (relaxing-then (at-loop .loop .inv) (c .before .before .before .walk-round .ensures .relaxing))
+    (λ k u v w link. relaxed k (walk-joins (lent .sound) link .exists) u v w link)
 
 pub spread-walks-spec : {M : Type 1} → statement M
 spread-walks-spec =

@@ -1,11 +1,14 @@
+-- Invariant: the links below k were relaxed, with at most one change each, and if nothing changed then none of them makes a
+-- distance smaller.
+-- Each turn leaves one link less to go.
 use mathlib.Core.Path.{_≡_}
 use native.Mathlib.Omega.{arith}
 use borrow.Author.Needs.{needs}
 use Prim.Native.Nat.{_-_, _≤_}
 use Rattle.rules.specs.Network.{nodeCount, linkCount}
-use Rattle.least.specs.Walking.{WalkBack}
+use Rattle.least.specs.WalkTrips.{WalkBack}
 use Rattle.spread.specs.Relaxing.{Progress, RelaxedBelow}
-use Rattle.spread.specs.Walking.{WalkLink}
+use Rattle.spread.specs.Lent.{WalkLink}
 use Rattle.spread.proofs.RelaxingLaws.{progress-none, next-link, relaxing-kept, lent-after}
 use Rattle.spread.proofs.walks.walk_round.Statement.{statement}
 use Rattle.spread.proofs.walks.walk_round.Tie as tie
@@ -26,21 +29,25 @@ loop-holds : tie.Need-loop-holds Inv-loop μ-loop
 loop-holds c = (omega arith, omega arith, progress-none (λ i h. absurd (omega arith)))
 
 relax-walk-requires : tie.Need-relax-walk-requires Inv-loop μ-loop
-relax-walk-requires c κs = (omega arith, lent-after (c .before .before .before .before .before .before .pre) (c .before .before .loop .inv .2 .relaxing))
+relax-walk-requires c κs =
+    let entry = c .before .before .before .before .before .before in
+    (omega arith, lent-after (entry .pre) (c .before .before .loop .inv .2 .relaxing))
 
 loop-again : tie.Need-loop-again Inv-loop μ-loop
-loop-again c = (
-  omega arith,
-  omega arith,
-  next-link (c .before .before .before .before .before .loop .inv .2) (c .before .before .relax-walk .ensures .1),
-)
+loop-again c =
+    let at-loop = c .before .before .before .before .before in (
+      omega arith,
+      omega arith,
+      next-link (at-loop .loop .inv .2) (c .before .before .relax-walk .ensures .1),
+    )
 
 same-length : tie.Need-same-length Inv-loop μ-loop
 same-length c = relaxing-kept (c .before .loop .inv .2 .relaxing) .size
 
 returns : tie.Need-returns Inv-loop μ-loop
 returns c =
-    let all : c .before .loop .k ≡ linkCount (c .before .before .before .before .before .args .network .now) = omega arith in
+    let entry = c .before .before .before .before .before in
+    let all : c .before .loop .k ≡ linkCount (entry .args .network .now) = omega arith in
     rw all at (c .before .loop .inv .2)
 
 pub walk-round-spec : {M : Type 1} → statement M

@@ -1,33 +1,31 @@
-use native.Mathlib.Omega.{arith}
-use lib.ListN.{length}
-use borrow.Author.Needs.{needs}
+-- Invariant: none stands in the first v places, and the later ones are kept. Each turn leaves one place less to go.
 use Prim.Native.Nat.{_-_, _≤_}
 use native.Mathlib.Omega.{arith}
-use mathlib.Core.Path.{_≡_, _∙_, ap}
-use borrow.Author.Fill.{fill-none, fill-more}
+use mathlib.Core.Path.{_≡_, refl}
+use borrow.Author.Needs.{needs}
 use Rattle.rules.specs.Walks.{noDistance}
-use Rattle.walk.specs.Row.{cleared}
-use Rattle.walk.proofs.StartLaws.{cleared-size}
+use Rattle.rules.specs.Rooms.{WrittenTo}
+use Rattle.rules.proofs.WritingLaws.{written-none, written-more}
 use Rattle.walk.proofs.inner.clear.Statement.{statement}
 use Rattle.walk.proofs.inner.clear.Tie as tie
 
 abbrev Inv-loop : tie.InvT-loop
-Inv-loop distances₀ n v₀ distances v = (v ≤ n) × (distances ≡ cleared v distances₀)
+Inv-loop distances₀ n v₀ distances v = (v ≤ n) × WrittenTo (λ v. noDistance) v distances₀ distances
 
 abbrev μ-loop : tie.MeasureT-loop
 μ-loop distances₀ n v₀ distances v = n - v
 
 loop-holds : tie.Need-loop-holds Inv-loop μ-loop
-loop-holds c = (omega arith, fill-none _ noDistance)
+loop-holds c = (omega arith, written-none)
 
 slice-write-distances : tie.Need-slice-write-distances Inv-loop μ-loop
-slice-write-distances c = omega (arith, ap length (c .before .loop .inv .1) ∙ cleared-size (c .before .loop .v) _ (omega arith))
+slice-write-distances c = omega (arith, c .before .loop .inv .1 .kept .size)
 
 loop-again : tie.Need-loop-again Inv-loop μ-loop
-loop-again c = (omega arith, rw (c .before .loop .inv .1) (fill-more (c .before .loop .v) noDistance _ (omega arith)))
+loop-again c = (omega arith, written-more (c .before .loop .inv .1) (omega arith) refl)
 
 same-length : tie.Need-same-length Inv-loop μ-loop
-same-length c = ap length (c .before .loop .inv .1) ∙ cleared-size (c .before .loop .v) _ (omega arith)
+same-length c = c .before .loop .inv .1 .kept .size
 
 returns : tie.Need-returns Inv-loop μ-loop
 returns c =

@@ -1,7 +1,8 @@
--- What the engine for walks is lent, and the arcs of one link.
+-- What the engines are lent, and the arcs of one link open to walkers.
 use Prim.Native.Nat.{ℕ, _≤_}
 use mathlib.Core.List.{List}
 use lib.ListN.{length}
+use Rattle.rules.specs.Limits.{mostWeight}
 use Rattle.rules.specs.Network.{SoundNetwork, nodeCount}
 use Rattle.rules.specs.Walks.{Walkable}
 use Rattle.least.specs.Trips.{Arcs, Turned}
@@ -10,6 +11,11 @@ use Rattle.least.specs.Trips.{Arcs, Turned}
 pub record LentRoom (network room : List ℕ) : Type 0 where
   pub sound : SoundNetwork network
   pub places : nodeCount network ≤ length room
+
+-- For drives also a bus weight within its limit.
+pub record LentRow (network : List ℕ) (weight : ℕ) (row : List ℕ) : Type 0 where
+  pub lent : LentRoom network row
+  pub light : weight ≤ mostWeight
 
 -- Link k gone backwards, from where it ends.
 abbrev pub WalkLink : List ℕ → ℕ → Arcs
