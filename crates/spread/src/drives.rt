@@ -16,7 +16,8 @@ ghost use Rattle.spread.specs.Lent.{LentRow};
 // Spreads packed sums along links open to a bus of that weight, from the values that stand in the row.
 pub fn spread_drives(network: &[u8], weight: u64, row: &mut [u64])
     requires { ⌜ LentRow (now network) weight (now row) ⌝ }
-    ensures { λ _. ⌜ Spread noFinish (nodeCount (now (network .entry))) (DriveArc (now (network .entry)) weight) (now (row .entry)) (now (row .exit)) ⌝ }
+    ensures { λ _. ⌜ Spread noFinish (nodeCount (now (network .entry))) (DriveArc (now (network .entry)) weight) (now (row .entry))
+        (now (row .exit)) ⌝ }
 {
     while drive_round(network, weight, row) != 0 {}
 }
@@ -24,7 +25,8 @@ pub fn spread_drives(network: &[u8], weight: u64, row: &mut [u64])
 // One round over all links: how many of them made a sum smaller.
 fn drive_round(network: &[u8], weight: u64, row: &mut [u64]) -> usize
     requires { ⌜ LentRow (now network) weight (now row) ⌝ }
-    ensures { λ r. ⌜ Progress (nodeCount (now (network .entry))) (DriveArc (now (network .entry)) weight) (RelaxedBelow (DriveLink (now (network .entry)) weight) (linkCount (now (network .entry)))) (now (row .entry)) (now (row .exit)) r ⌝ }
+    ensures { λ r. ⌜ Progress (nodeCount (now (network .entry))) (DriveArc (now (network .entry)) weight)
+        (RelaxedBelow (DriveLink (now (network .entry)) weight) (linkCount (now (network .entry)))) (now (row .entry)) (now (row .exit)) r ⌝ }
 {
     let m = link_count(network);
     let mut changes = 0;
@@ -39,7 +41,8 @@ fn drive_round(network: &[u8], weight: u64, row: &mut [u64]) -> usize
 // Relaxes link k: 1 if the sum at its start is made smaller by driving it, and 0 if not.
 fn relax_drive(network: &[u8], weight: u64, k: usize, row: &mut [u64]) -> usize
     requires { ⌜ (k < linkCount (now network)) × LentRow (now network) weight (now row) ⌝ }
-    ensures { λ r. ⌜ (r ≤ 1) × Progress (nodeCount (now (network .entry))) (DriveArc (now (network .entry)) weight) (RelaxedLink (DriveLink (now (network .entry)) weight) k) (now (row .entry)) (now (row .exit)) r ⌝ }
+    ensures { λ r. ⌜ (r ≤ 1) × Progress (nodeCount (now (network .entry))) (DriveArc (now (network .entry)) weight)
+        (RelaxedLink (DriveLink (now (network .entry)) weight) k) (now (row .entry)) (now (row .exit)) r ⌝ }
 {
     let cost = drive(network, k);
     if CLOSED <= cost {

@@ -15,7 +15,8 @@ ghost use Rattle.spread.specs.Lent.{LentRoom, WalkLink};
 // Spreads distances along links open to walkers, from the values that stand there.
 pub fn spread_walks(network: &[u8], distances: &mut [u32])
     requires { ⌜ LentRoom (now network) (now distances) ⌝ }
-    ensures { λ _. ⌜ Spread noDistance (nodeCount (now (network .entry))) (WalkBack (now (network .entry))) (now (distances .entry)) (now (distances .exit)) ⌝ }
+    ensures { λ _. ⌜ Spread noDistance (nodeCount (now (network .entry))) (WalkBack (now (network .entry)))
+        (now (distances .entry)) (now (distances .exit)) ⌝ }
 {
     while walk_round(network, distances) != 0 {}
 }
@@ -23,7 +24,8 @@ pub fn spread_walks(network: &[u8], distances: &mut [u32])
 // One round over all links: how many of them made a distance smaller.
 fn walk_round(network: &[u8], distances: &mut [u32]) -> usize
     requires { ⌜ LentRoom (now network) (now distances) ⌝ }
-    ensures { λ r. ⌜ Progress (nodeCount (now (network .entry))) (WalkBack (now (network .entry))) (RelaxedBelow (WalkLink (now (network .entry))) (linkCount (now (network .entry)))) (now (distances .entry)) (now (distances .exit)) r ⌝ }
+    ensures { λ r. ⌜ Progress (nodeCount (now (network .entry))) (WalkBack (now (network .entry)))
+        (RelaxedBelow (WalkLink (now (network .entry))) (linkCount (now (network .entry)))) (now (distances .entry)) (now (distances .exit)) r ⌝ }
 {
     let m = link_count(network);
     let mut changes = 0;
@@ -38,7 +40,8 @@ fn walk_round(network: &[u8], distances: &mut [u32]) -> usize
 // Relaxes link k: 1 if the distance to its end is made smaller by walking it, and 0 if not.
 fn relax_walk(network: &[u8], k: usize, distances: &mut [u32]) -> usize
     requires { ⌜ (k < linkCount (now network)) × LentRoom (now network) (now distances) ⌝ }
-    ensures { λ r. ⌜ (r ≤ 1) × Progress (nodeCount (now (network .entry))) (WalkBack (now (network .entry))) (RelaxedLink (WalkLink (now (network .entry))) k) (now (distances .entry)) (now (distances .exit)) r ⌝ }
+    ensures { λ r. ⌜ (r ≤ 1) × Progress (nodeCount (now (network .entry))) (WalkBack (now (network .entry)))
+        (RelaxedLink (WalkLink (now (network .entry))) k) (now (distances .entry)) (now (distances .exit)) r ⌝ }
 {
     let cost = walk(network, k);
     if CLOSED <= cost as u64 {
