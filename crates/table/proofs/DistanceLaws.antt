@@ -1,22 +1,24 @@
 -- Distances, one rider's row after the other.
 use Prim.Native.Nat.{ℕ, _+_, _*_, _≤_, _<_}
-use mathlib.Core.Path.{_≡_, refl}
+use mathlib.Core.Path.{_≡_}
 use mathlib.Core.List.{List}
 use native.Mathlib.Omega.{arith}
 use lib.ListN.{length}
 use Rattle.rules.specs.Network.{nodeCount}
 use Rattle.rules.specs.Request.{riderNodeOf, riderCountOf}
-use Rattle.rules.specs.Walks.{HoldsDistance}
+use Rattle.rules.specs.Routes.{RiderHolds}
 use Rattle.rules.specs.Rooms.{Distances}
 use Rattle.rules.specs.declared.Request.{Request}
-use Rattle.spread.specs.Walking.{LentRoom}
+use Rattle.rules.proofs.RiderLaws.{rider-held}
+use Rattle.rules.proofs.RoomLaws.{kept-none, kept-then, row-within}
+use Rattle.spread.specs.Lent.{LentRoom}
 use Rattle.walk.specs.Row.{Row}
 use Rattle.table.specs.Filling.{Ready, KnownDistances, WalkedRows}
-use Rattle.table.proofs.RowLaws.{Lies, rowOf, putRow, lent-row, row-start, row-within, row-kept, kept-then, rows-put}
+use Rattle.table.proofs.RowLaws.{Lies, rowOf, putRow, lent-row, row-start, row-kept, rows-put}
 
 module _ {network : List ℕ} {q : Request} {before : List ℕ} where
   pub walked-none : WalkedRows network q 0 before before
-  walked-none = record { within = omega arith; walks = λ i v h. absurd (omega arith); kept = record { size = refl; later = refl } }
+  walked-none = record { within = omega arith; walks = λ i v h. absurd (omega arith); kept = kept-none }
 
   module _ (ready : Ready network q before) {j : ℕ} {t : List ℕ} (so : WalkedRows network q j before t) where
     -- the next row is there
@@ -30,12 +32,15 @@ module _ {network : List ℕ} {q : Request} {before : List ℕ} where
     pub row-lent : j < riderCountOf q → LentRoom network (rowOf (nodeCount network) j t)
     row-lent h = lent-row t j (ready .sound) (row-fits h .within)
 
-    pub walked-more : {part : List ℕ} → j < riderCountOf q → Row network (riderNodeOf q j) (rowOf (nodeCount network) j t) part → WalkedRows network q (j + 1) before (putRow (nodeCount network) j t part)
+    -- one row more: what was walked from the rider's node is the rider's
+    pub walked-more : {part : List ℕ} → j < riderCountOf q → Row network (riderNodeOf q j) (rowOf (nodeCount network) j t) part
+        → WalkedRows network q (j + 1) before (putRow (nodeCount network) j t part)
     walked-more {part} h row =
         let fits = row-fits h .within in
         record {
           within = omega arith;
-          walks = rows-put (nodeCount network) j t part fits (row .kept .size) (λ i v x. HoldsDistance network (riderNodeOf q i) v x) (so .walks) (row .holds);
+          walks =
+              rows-put (nodeCount network) j t part fits (row .kept .size) (RiderHolds network q) (so .walks) (λ v g. rider-held (row .holds v g));
           kept = kept-then (so .kept) (row-kept (nodeCount network) j t part fits (row .kept .size) (row-within (nodeCount network) h));
         }
 
@@ -44,7 +49,8 @@ module _ {network : List ℕ} {q : Request} {before : List ℕ} where
     walked-all all = let e : j ≡ riderCountOf q = omega (arith, so .within) in record { holds = rw e at (so .walks); kept = so .kept }
 
 -- what the work table is filled from
-pub distances-walked : {network : List ℕ} {q : Request} {before after : List ℕ} → Ready network q before → Distances network q before after → KnownDistances network q after
+pub distances-walked : {network : List ℕ} {q : Request} {before after : List ℕ} → Ready network q before
+    → Distances network q before after → KnownDistances network q after
 distances-walked ready so =
     record {
       ready = record { sound = ready .sound; request = ready .request; places = omega (arith, so .kept .size, ready .places) };

@@ -1,5 +1,6 @@
--- Laws of rows, of the riders' distances and of the work table.
+-- Laws of rows, of the riders' distances, of meetings and of the work table.
 pub mod RowLaws
 pub mod DistanceLaws
+pub mod MeetingLaws
 pub mod StartLaws
 pub mod TableLaws

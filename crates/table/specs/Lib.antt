@@ -1,1 +1,3 @@
+-- What is known while the two rooms are filled, and meetings at a node.
 pub mod Filling
+pub mod Meetings

@@ -1,19 +1,16 @@
 // What a row of the work table starts from: the finishes that don't begin by driving.
+use crate::meetings::first_meeting;
 use crate::places::place;
-use crate::places::rider_bit;
 use records::inner::node_count;
-use rules::NO_DISTANCE;
 use rules::NO_FINISH;
 use rules::Request;
-ghost use Prim.Native.Nat.{_+_, _*_, _<_, min};
+ghost use Prim.Native.Nat.{_+_, _<_, min};
 ghost use mathlib.Core.Path.{_≡_};
-ghost use lib.ListN.{getD};
 ghost use Rattle.rules.specs.Network.{nodeCount};
-ghost use Rattle.rules.specs.Request.{riderWeightOf, riderCountOf};
 ghost use Rattle.rules.specs.Rooms.{noFinish};
 ghost use Rattle.least.specs.Least.{Least};
 ghost use Rattle.finish.specs.Packed.{Ends};
-ghost use Rattle.table.specs.Filling.{Ready, RowReady, Started, meetingStep};
+ghost use Rattle.table.specs.Filling.{RowReady, Started};
 
 // Fills row `riders` with what it starts from.
 pub fn start_row(network: &[u8], q: Request, distances: &[u32], riders: u32, table: &mut [u64])
@@ -65,27 +62,11 @@ fn least_meeting(
     let mut least = NO_FINISH;
     let mut left = riders;
     while u32::count_ones(left) != 0 {
-        let j = u32::trailing_zeros(left);
-        let bit = rider_bit(j);
-        let step = meeting_step(network, q, distances, j as usize, v);
-        let rest = table[place(network, (riders - bit) as usize, v)];
-        least = smaller(least, step, rest);
-        left -= bit;
+        let next = first_meeting(network, q, distances, table, riders, left, v);
+        least = smaller(least, next.step, next.rest);
+        left = next.left;
     }
     least
-}
-
-// What the step takes that meets rider j at v, or 2^64-1 where the rider cannot walk there.
-pub fn meeting_step(network: &[u8], q: Request, distances: &[u32], j: usize, v: usize) -> u64
-    requires { ⌜ (j < riderCountOf q) × (v < nodeCount (now network)) × Ready (now network) q (now distances) ⌝ }
-    ensures { λ r. ⌜ r ≡ meetingStep (riderWeightOf q j) (getD (now (distances .entry)) (j * nodeCount (now (network .entry)) + v) 0) ⌝ }
-{
-    let distance = distances[place(network, j, v)];
-    if distance == NO_DISTANCE {
-        return NO_FINISH;
-    }
-    let weights = q.weights;
-    4096 * (weights[j] * distance as u64) + 1
 }
 
 // The smaller of `least` and of `step` and `rest` together.

@@ -1,3 +1,4 @@
+-- Invariant: the rows of the riders below j hold their walking distances. Each turn leaves one rider less to go.
 use Prim.Native.Nat.{_-_, _*_}
 use native.Mathlib.Omega.{arith}
 use lib.ListN.{length}
@@ -17,8 +18,12 @@ abbrev μ-loop : tie.MeasureT-loop
 loop-holds : tie.Need-loop-holds Inv-loop μ-loop
 loop-holds c = walked-none
 
-fits : (c : tie.Then1 Inv-loop μ-loop) → Lies (c .before .before .loop .j * c .before .before .before .before .node-count .result) (c .before .before .before .before .node-count .result) (length (c .before .before .loop .distances))
-fits c = rw (c .before .before .before .before .node-count .ensures .value) (row-fits (c .before .before .before .before .before .before .before .pre) (c .before .before .loop .inv) (c .if1 .taken))
+fits : (c : tie.Then1 Inv-loop μ-loop)
+    → Lies (c .before .before .loop .j * c .before .before .before .before .node-count .result)
+    (c .before .before .before .before .node-count .result) (length (c .before .before .loop .distances))
+fits c =
+    let entry = c .before .before .before .before .before .before .before in
+    rw (c .before .before .before .before .node-count .ensures .value) (row-fits (entry .pre) (c .before .before .loop .inv) (c .if1 .taken))
 
 mul-a : tie.Need-mul-a Inv-loop μ-loop
 mul-a c = omega (arith, fits c)
@@ -27,10 +32,14 @@ add-b : tie.Need-add-b Inv-loop μ-loop
 add-b c = omega (arith, fits c)
 
 mul-walk-from : tie.Need-mul-walk-from Inv-loop μ-loop
-mul-walk-from c = omega (arith, c .before .before .before .before .before .before .before .pre .request .riders)
+mul-walk-from c =
+    let entry = c .before .before .before .before .before .before .before in
+    omega (arith, entry .pre .request .riders)
 
 array-read-walk-from : tie.Need-array-read-walk-from Inv-loop μ-loop
-array-read-walk-from c = omega (arith, c .before .before .before .before .before .before .before .pre .request .riders)
+array-read-walk-from c =
+    let entry = c .before .before .before .before .before .before .before in
+    omega (arith, entry .pre .request .riders)
 
 mul-walk-from-2 : tie.Need-mul-walk-from-2 Inv-loop μ-loop
 mul-walk-from-2 c = omega (arith, fits c)
@@ -39,19 +48,34 @@ part-walk-from-end : tie.Need-part-walk-from-end Inv-loop μ-loop
 part-walk-from-end c = fits c .within
 
 walk-from-requires : tie.Need-walk-from-requires Inv-loop μ-loop
-walk-from-requires c κs = (c .before .before .before .before .before .before .before .before .pre .request .nodes _ (c .before .if1 .taken), rw (c .before .before .before .before .before .node-count .ensures .value) (row-lent (c .before .before .before .before .before .before .before .before .pre) (c .before .before .before .loop .inv) (c .before .if1 .taken)))
+walk-from-requires c κs =
+    let at-node-count = c .before .before .before .before .before in
+    let entry = c .before .before .before .before .before .before .before .before in (
+      entry .pre .request .nodes _ (c .before .if1 .taken),
+      rw (at-node-count .node-count .ensures .value)
+          (row-lent (entry .pre) (c .before .before .before .loop .inv) (c .before .if1 .taken)),
+    )
 
 add-j : tie.Need-add-j Inv-loop μ-loop
-add-j c = omega (arith, c .before .before .before .before .before .before .before .before .before .before .before .pre .request .riders)
+add-j c =
+    let entry = c .before .before .before .before .before .before .before .before .before .before .before in
+    omega (arith, entry .pre .request .riders)
 
 loop-again : tie.Need-loop-again Inv-loop μ-loop
-loop-again c = rw (c .before .before .before .before .before .before .before .before .node-count .ensures .value) (walked-more (c .before .before .before .before .before .before .before .before .before .before .before .pre) (c .before .before .before .before .before .before .loop .inv) (c .before .before .before .before .if1 .taken) (rw (c .before .before .before .before .before .before .before .before .node-count .ensures .value) at (c .before .before .walk-from .ensures)))
+loop-again c =
+    let at-loop = c .before .before .before .before .before .before in
+    let at-node-count = c .before .before .before .before .before .before .before .before in
+    let entry = c .before .before .before .before .before .before .before .before .before .before .before in
+    rw (at-node-count .node-count .ensures .value) (walked-more (entry .pre) (at-loop .loop .inv)
+    (c .before .before .before .before .if1 .taken) (rw (at-node-count .node-count .ensures .value) at (c .before .before .walk-from .ensures)))
 
 same-length : tie.Need-same-length Inv-loop μ-loop
 same-length c = c .before .before .loop .inv .kept .size
 
 returns : tie.Need-returns Inv-loop μ-loop
-returns c = walked-all (c .before .before .before .before .before .before .before .pre) (c .before .before .loop .inv) (c .if1 .left)
+returns c =
+    let entry = c .before .before .before .before .before .before .before in
+    walked-all (entry .pre) (c .before .before .loop .inv) (c .if1 .left)
 
 pub fill-distances-spec : {M : Type 1} → statement M
 fill-distances-spec =

@@ -7,8 +7,12 @@ use Rattle.table.proofs.RowLaws.{Lies}
 use Rattle.table.proofs.rows.fill_row.Statement.{statement}
 use Rattle.table.proofs.rows.fill_row.Tie as tie
 
-there : (c : tie.After-node-count) → Lies (c .before .before .before .before .before .before .before .before .args .riders * c .node-count .result) (c .node-count .result) (length (c .before .before .before .start-row .last .1 .1 .1 .1 .0))
-there c = rw (c .node-count .ensures .value) (row-there (c .before .before .before .before .before .before .before .before .pre) (c .before .before .before .start-row .ensures))
+there : (c : tie.After-node-count)
+    → Lies (c .before .before .before .before .before .before .before .before .args .riders * c .node-count .result)
+    (c .node-count .result) (length (c .before .before .before .start-row .last .1 .1 .1 .1 .0))
+there c =
+    let entry = c .before .before .before .before .before .before .before .before in
+    rw (c .node-count .ensures .value) (row-there (entry .pre) (c .before .before .before .start-row .ensures))
 
 mul-a : tie.Need-mul-a
 mul-a c = omega (arith, there c)
@@ -23,10 +27,17 @@ part-spread-drives-end : tie.Need-part-spread-drives-end
 part-spread-drives-end c = there c .within
 
 spread-drives-requires : tie.Need-spread-drives-requires
-spread-drives-requires c κs = rw (c .before .node-count .ensures .value) (row-lent (c .before .before .before .before .before .before .before .before .before .pre) (c .before .before .before .before .start-row .ensures))
+spread-drives-requires c κs =
+    let entry = c .before .before .before .before .before .before .before .before .before in
+    rw (c .before .node-count .ensures .value) (row-lent (entry .pre) (c .before .before .before .before .start-row .ensures))
 
 returns : tie.Need-returns
-returns c = rw (c .before .before .before .before .node-count .ensures .value) (row-filled (c .before .before .before .before .before .before .before .before .before .before .before .before .pre) (c .before .before .before .before .before .before .before .start-row .ensures) (rw (c .before .before .before .before .node-count .ensures .value) at (c .before .before .spread-drives .ensures)))
+returns c =
+    let at-start-row = c .before .before .before .before .before .before .before in
+    let entry = c .before .before .before .before .before .before .before .before .before .before .before .before in
+    rw (c .before .before .before .before .node-count .ensures .value)
+    (row-filled (entry .pre) (at-start-row .start-row .ensures)
+    (rw (c .before .before .before .before .node-count .ensures .value) at (c .before .before .spread-drives .ensures)))
 
 pub fill-row-spec : {M : Type 1} → statement M
 fill-row-spec =

@@ -1,3 +1,4 @@
+-- Invariant: the rows of the sets below `riders` are filled. Each turn leaves one set less to go.
 use Prim.Native.Nat.{_-_, _^_}
 use mathlib.Core.Path.{_≡_}
 use native.Mathlib.Omega.{arith}
@@ -19,21 +20,30 @@ rider-bit-requires : tie.Need-rider-bit-requires Inv-loop μ-loop
 rider-bit-requires c κs = omega (arith, c .before .before .before .before .pre .0 .ready .request .riders)
 
 loop-holds : tie.Need-loop-holds Inv-loop μ-loop
-loop-holds c = filled-none (c .before .before .before .before .before .pre .0)
+loop-holds c =
+    let entry = c .before .before .before .before .before in
+    filled-none (entry .pre .0)
 
 fill-row-requires : tie.Need-fill-row-requires Inv-loop μ-loop
-fill-row-requires c κs = next-room (c .before .before .before .before .before .before .before .before .pre .0) (c .before .before .loop .inv) (c .before .before .before .before .before .before .before .before .pre .1) (rw (c .before .before .before .rider-bit .ensures) at (c .before .loop-test .taken))
+fill-row-requires c κs =
+    let entry = c .before .before .before .before .before .before .before .before in
+    next-room (entry .pre .0) (c .before .before .loop .inv) (entry .pre .1)
+    (rw (c .before .before .before .rider-bit .ensures) at (c .before .loop-test .taken))
 
 loop-again : tie.Need-loop-again Inv-loop μ-loop
-loop-again c = filled-more (c .before .before .before .before .before .before .before .before .before .before .before .pre .0) (c .before .before .before .before .before .loop .inv) (c .before .before .fill-row .ensures)
+loop-again c =
+    let at-loop = c .before .before .before .before .before in
+    let entry = c .before .before .before .before .before .before .before .before .before .before .before in
+    filled-more (entry .pre .0) (at-loop .loop .inv) (c .before .before .fill-row .ensures)
 
 same-length : tie.Need-same-length Inv-loop μ-loop
 same-length c = c .before .loop .inv .kept .size
 
 returns : tie.Need-returns Inv-loop μ-loop
 returns c =
-    let all : c .before .loop .riders ≡ 2 ^ c .before .before .before .before .before .before .before .args .q .«rider_count» = omega (arith, c .before .before .rider-bit .ensures) in
-    filled-all (c .before .before .before .before .before .before .before .pre .0) (rw all at (c .before .loop .inv))
+    let entry = c .before .before .before .before .before .before .before in
+    let all : c .before .loop .riders ≡ 2 ^ entry .args .q .«rider_count» = omega (arith, c .before .before .rider-bit .ensures) in
+    filled-all (entry .pre .0) (rw all at (c .before .loop .inv))
 
 pub fill-table-spec : {M : Type 1} → statement M
 fill-table-spec =

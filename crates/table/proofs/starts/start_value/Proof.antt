@@ -9,10 +9,14 @@ least-meeting-requires : tie.Need-least-meeting-requires
 least-meeting-requires c κs = search (needs, somebody)
 
 returns-2 : tie.Need-returns-2
-returns-2 c = arrived (c .before .before .before .before .before .before .pre .1 .row) (c .before .before .if1 .left) (λ e. refl) (λ g. absurd (g (c .if2 .taken)))
+returns-2 c =
+    let entry = c .before .before .before .before .before .before in
+    arrived (entry .pre .1 .row) (c .before .before .if1 .left) (λ e. refl) (λ g. absurd (g (c .if2 .taken)))
 
 returns-3 : tie.Need-returns-3
-returns-3 c = arrived (c .before .before .before .before .before .before .pre .1 .row) (c .before .before .if1 .left) (λ e. absurd (c .if2 .left e)) (λ g. refl)
+returns-3 c =
+    let entry = c .before .before .before .before .before .before in
+    arrived (entry .pre .1 .row) (c .before .before .if1 .left) (λ e. absurd (c .if2 .left e)) (λ g. refl)
 
 pub start-value-spec : {M : Type 1} → statement M
 start-value-spec = tie.close (tie.spec least-meeting-requires (λ c. search needs) returns-2 returns-3)
