@@ -8,14 +8,18 @@ use Rattle.rules.specs.Network.{SoundNetwork, nodeCount}
 use Rattle.rules.specs.Request.{SoundValue, riderNodeOf, riderWeightOf, riderCountOf, busWeightOf}
 use Rattle.rules.specs.Routes.{Route, nodeAt, Reaches, RiderWalks, Meeting, sum, Price}
 use Rattle.rules.specs.declared.Request.{Request}
+use Rattle.rules.specs.Plans.{RightPlan}
 use Rattle.rules.proofs.PriceLaws.{sum-same}
+use Rattle.right.specs.Steps.{drivesOf}
+use Rattle.right.proofs.Right.{right-price}
+use Rattle.right.proofs.Routes.{right-cheapest}
 use Rattle.paper.specs.Fraction.{Fraction, times, IsWhole, AtMost}
 use Rattle.paper.specs.Problem.{Graph, OneWeight, Path, stays, goes, NodeRoute, Query, average, Cost, Optimal}
 use Rattle.paper.specs.Prices.{HasPrice, NoLower}
 use Rattle.paper.specs.TwoWay.{TwoWay, graphOf, EqualWeights, queryOf, nodesOf, PricedPath}
 use Rattle.paper.proofs.Fraction.{average-is, le-at-most, at-most-le}
-use Rattle.paper.proofs.TwoWay.{passes, passed, drive-path, path-drive, distance-dist, dist-distance}
-use Rattle.paper.proofs.Prices.{nearest, meet, route-price}
+use Rattle.paper.proofs.TwoWay.{position-passed, passed-position, drive-path, path-drive, rider-dist}
+use Rattle.paper.proofs.Prices.{nearest, meetings-price, route-price}
 
 -- Where edges that join the same nodes have the same weight, a path has one f.
 path-unique : {G : Graph} {s t c e : ℕ} {P : List ℕ} → OneWeight G → Path G t s P c → Path G t s P e → c ≡ e
@@ -27,30 +31,31 @@ near-unique a b = omega (arith, a .least _ _ (b .passed) (b .reached), b .least 
 
 pub cost-unique : {G : Graph} {query : Query} {P : List ℕ} {f g : Fraction} → OneWeight G → Cost G query P f → Cost G query P g → f ≡ g
 cost-unique {query = query} one x y =
-    x .averages
-    ∙ ap₂ (average (query .alpha)) (path-unique one (x .path) (y .path)) (sum-same (query .l) (x .d) (y .d) (λ j h. near-unique (x .near j h) (y .near j h)))
-    ∙ sym (y .averages)
+    let d = sum-same (query .l) (x .d) (y .d) (λ j h. near-unique (x .near j h) (y .near j h)) in
+    x .averages ∙ ap₂ (average (query .alpha)) (path-unique one (x .path) (y .path)) d ∙ sym (y .averages)
 
 module _ {network : List ℕ} (two : TwoWay network) {q : Request} {route : List ℕ} where
   -- A rider's meeting position is at the distance of equation (1) ..
-  meeting-near : {j position d : ℕ} → Meeting network q route j position d → NodeRoute (graphOf network) (riderNodeOf q j) (q .source ∷ nodesOf network route) d
-  meeting-near {position = position} m =
+  meeting-near : {j position d : ℕ} → Meeting network q route j position d
+      → NodeRoute (graphOf network) (riderNodeOf q j) (q .source ∷ nodesOf network route) d
+  meeting-near {j} {position} m =
       record {
         meeting = nodeAt network (q .source) route position;
-        passed = passes network (q .source) route position (m .within);
-        reached = distance-dist two (m .walks);
-        least = λ v e on far.
-            let (other, within, is) = passed network (q .source) route on in
-            m .least other e within (rw is at (dist-distance two far));
+        passed = position-passed network (q .source) route position (m .within);
+        reached = rider-dist two q j .0 (m .walks);
+        least = λ v e on dist.
+            let (other, within, is) = passed-position network (q .source) route on in
+            m .least other e within (rw is at (rider-dist two q j .1 dist));
       }
 
   -- .. and a rider at such a distance has a meeting position.
-  near-meeting : {j d : ℕ} → SoundNetwork network → SoundValue (nodeCount network) q → j < riderCountOf q → NodeRoute (graphOf network) (riderNodeOf q j) (q .source ∷ nodesOf network route) d → (p : ℕ) × Meeting network q route j p d
+  near-meeting : {j d : ℕ} → SoundNetwork network → SoundValue (nodeCount network) q → j < riderCountOf q
+      → NodeRoute (graphOf network) (riderNodeOf q j) (q .source ∷ nodesOf network route) d
+      → (p : ℕ) × Meeting network q route j p d
   near-meeting {j} {d} sound value h near =
-      let (position, within, is) = passed network (q .source) route (near .passed) in
-      let walks : RiderWalks network q j (nodeAt network (q .source) route position) d = rw is at (dist-distance two (near .reached)) in
-      let (e, found) = nearest sound value route h (record { position = position; links = walks .links; sum = d; within = within; walk = walks .walked }) in
-      let (p, m) = found in
+      let (position, within, is) = passed-position network (q .source) route (near .passed) in
+      let walks : RiderWalks network q j (nodeAt network (q .source) route position) d = rw is at (rider-dist two q j .1 (near .reached)) in
+      let (e, (p, m)) = nearest sound value route h (record { position = position; distance = d; within = within; walks = walks }) in
       let same : e ≡ d = near-unique (meeting-near m) near in
       (p, rw same at m)
 
@@ -71,31 +76,44 @@ module _ {network : List ℕ} (two : TwoWay network) {q : Request} {w : ℕ} (we
       sum-same (riderCountOf q) _ _ (λ j h. ap (λ (x : ℕ). x * walking j) (weights .riders j h)) ∙ sum-times w (riderCountOf q) walking
 
   -- The price is (a+w) × f(P), where P is the path along the route ..
-  pub price-cost : {route meetings : List ℕ} {price : ℕ} → Price network q route meetings price → (f : Fraction) × PathCost (nodesOf network route) f × IsWhole (times f (busWeightOf q + w)) price
+  pub price-cost : {route meetings : List ℕ} {price : ℕ} → Price network q route meetings price
+      → (f : Fraction) × PathCost (nodesOf network route) f × IsWhole (times f (busWeightOf q + w)) price
   price-cost p = (
     average (queryOf q w weights .alpha) (p .driving) (sum (riderCountOf q) (p .walking)),
-    record { c = p .driving; d = p .walking; path = drive-path two (p .drives); near = λ j h. meeting-near two (p .meets j h); averages = refl },
+    record {
+      c = p .driving;
+      d = p .walking;
+      path = drive-path two (p .drives);
+      near = λ j h. meeting-near two (p .meets j h);
+      averages = refl;
+    },
     rw (p .adds, same-weight (p .walking)) (average-is (busWeightOf q) w (omega arith) (p .driving) (sum (riderCountOf q) (p .walking))),
   )
 
   -- .. and no other number is f(P), unless links between the same nodes differ in cost.
-  pub price-is : {route meetings : List ℕ} {price : ℕ} {f : Fraction} → OneWeight (graphOf network) → Price network q route meetings price → PathCost (nodesOf network route) f → IsWhole (times f (busWeightOf q + w)) price
+  pub price-is : {route meetings : List ℕ} {price : ℕ} {f : Fraction} → OneWeight (graphOf network)
+      → Price network q route meetings price → PathCost (nodesOf network route) f → IsWhole (times f (busWeightOf q + w)) price
   price-is {price = price} one p x =
       let (g, y, is) = price-cost p in
       subst (λ (h : Fraction). IsWhole (times h (busWeightOf q + w)) price) (cost-unique one y x) is
 
   module _ (sound : SoundNetwork network) (value : SoundValue (nodeCount network) q) where
     -- A legal route whose riders all reach it has a price, and it is (a+w) × f(P).
-    pub route-cost : {route : List ℕ} {driving : ℕ} → Route network q route driving → ((j : ℕ) → j < riderCountOf q → Reaches network q route j) → (price : ℕ) × (f : Fraction) × HasPrice network q route price × PathCost (nodesOf network route) f × IsWhole (times f (busWeightOf q + w)) price
+    pub route-cost : {route : List ℕ} {driving : ℕ} → Route network q route driving
+        → ((j : ℕ) → j < riderCountOf q → Reaches network q route j)
+        → (price : ℕ) × (f : Fraction) × HasPrice network q route price × PathCost (nodesOf network route) f
+        × IsWhole (times f (busWeightOf q + w)) price
     route-cost drives reaches =
         let (price, has) = route-price sound value _ drives reaches in
         let (f, x, is) = price-cost (has .prices) in
         (price, f, has, x, is)
 
     -- Where c is what driving it costs and d what equation (1) says, that price is a × c + w × sum of d.
-    pub route-worth : {route : List ℕ} {c : ℕ} (d : ℕ → ℕ) → Route network q route c → ((j : ℕ) → j < riderCountOf q → NodeRoute (graphOf network) (riderNodeOf q j) (q .source ∷ nodesOf network route) (d j)) → HasPrice network q route (busWeightOf q * c + w * sum (riderCountOf q) d)
+    pub route-worth : {route : List ℕ} {c : ℕ} (d : ℕ → ℕ) → Route network q route c
+        → ((j : ℕ) → j < riderCountOf q → NodeRoute (graphOf network) (riderNodeOf q j) (q .source ∷ nodesOf network route) (d j))
+        → HasPrice network q route (busWeightOf q * c + w * sum (riderCountOf q) d)
     route-worth d drives near =
-        rw (← same-weight d) (meet q d drives (λ j h. near-meeting two sound value h (near j h)))
+        rw (← same-weight d) (meetings-price q d drives (λ j h. near-meeting two sound value h (near j h)))
 
     -- Every path with an f is that of a route whose price is (a+w) × f.
     pub cost-price : {P : List ℕ} {f : Fraction} → PathCost P f → PricedPath network q w P f
@@ -110,15 +128,29 @@ module _ {network : List ℕ} (two : TwoWay network) {q : Request} {w : ℕ} (we
         }
 
     -- A route of least price goes along a path that Definition 2.1 asks for ..
-    pub lowest-optimal : {route meetings : List ℕ} {price : ℕ} → Price network q route meetings price → NoLower network q price → (f : Fraction) × Optimal (graphOf network) (queryOf q w weights) (nodesOf network route) f × IsWhole (times f (busWeightOf q + w)) price
+    pub lowest-optimal : {route meetings : List ℕ} {price : ℕ} → Price network q route meetings price → NoLower network q price
+        → (f : Fraction) × Optimal (graphOf network) (queryOf q w weights) (nodesOf network route) f
+        × IsWhole (times f (busWeightOf q + w)) price
     lowest-optimal {price = price} p low =
         let (f, x, is) = price-cost p in
-        let least : (P : List ℕ) (g : Fraction) → PathCost P g → AtMost f g =
-        λ P g y. let r = cost-price y in le-at-most f g (busWeightOf q + w) price (r .price) (omega arith) is (r .is) (low _ _ _ (r .priced .prices)) in
+        let least : (P : List ℕ) (g : Fraction) → PathCost P g → AtMost f g = λ P g y.
+        let r = cost-price y in
+        le-at-most f g (busWeightOf q + w) price (r .price) (omega arith) is (r .is) (low _ _ _ (r .priced .prices)) in
         (f, record { costs = x; least = least }, is)
 
+    -- .. so the route of the right plan does, which costs a+w times the f of that path ..
+    pub right-optimal : {steps : List ℕ} {cost : ℕ} → RightPlan network q steps cost
+        → (f : Fraction) × Optimal (graphOf network) (queryOf q w weights) (nodesOf network (drivesOf steps)) f
+        × IsWhole (times f (busWeightOf q + w)) cost
+    right-optimal right = lowest-optimal (right-price value right) (λ route meetings price. right-cheapest (value .riders) right)
+
     -- .. and each such path is that of a route of least price.
-    pub optimal-lowest : {P : List ℕ} {f : Fraction} → Optimal (graphOf network) (queryOf q w weights) P f → (r : PricedPath network q w P f) × NoLower network q (r .price)
+    pub optimal-lowest : {P : List ℕ} {f : Fraction} → Optimal (graphOf network) (queryOf q w weights) P f
+        → (r : PricedPath network q w P f) × NoLower network q (r .price)
     optimal-lowest {f = f} o =
-        let r = cost-price (o .costs) in
-        (r, λ route meetings price p. let (g, y, is) = price-cost p in at-most-le f g (busWeightOf q + w) (r .price) price (omega arith) (r .is) is (o .least _ g y))
+        let r = cost-price (o .costs) in (
+          r,
+          λ route meetings price p.
+              let (g, y, is) = price-cost p in
+              at-most-le f g (busWeightOf q + w) (r .price) price (omega arith) (r .is) is (o .least _ g y),
+        )

@@ -7,54 +7,54 @@ use native.Mathlib.Omega.{arith}
 use lib.ListN.{length, getD}
 use Rattle.rules.specs.Network.{SoundNetwork, nodeCount}
 use Rattle.rules.specs.Request.{SoundValue, riderWeightOf, riderCountOf, busWeightOf}
-use Rattle.rules.specs.Routes.{Route, nodeAt, Reaches, RiderWalks, Meeting, sum}
+use Rattle.rules.specs.Routes.{Route, nodeAt, Reaches, RiderWalks, Meeting, sum, Price}
 use Rattle.rules.specs.declared.Request.{Request}
-use Rattle.least.proofs.Decide.{Lowest, dec-lowest, lowest-of, some-distance, dec-distance}
+use Rattle.least.proofs.Decide.{LowestBelow, dec-lowest, lowest-of, dec-rider-walks}
 use Rattle.least.proofs.Collect.{collect}
 use Rattle.paper.specs.Prices.{HasPrice}
 
 -- Riders who have each a meeting position make a list of them, and a price.
-pub meet : {network : List ℕ} (q : Request) {route : List ℕ} {driving : ℕ} (walking : ℕ → ℕ) → Route network q route driving → ((j : ℕ) → j < riderCountOf q → (p : ℕ) × Meeting network q route j p (walking j)) → HasPrice network q route (busWeightOf q * driving + sum (riderCountOf q) (λ j. riderWeightOf q j * walking j))
-meet {network} q {route} {driving} walking drives meets =
+pub meetings-price : {network : List ℕ} (q : Request) {route : List ℕ} {driving : ℕ} (walking : ℕ → ℕ) → Route network q route driving
+    → ((j : ℕ) → j < riderCountOf q → (p : ℕ) × Meeting network q route j p (walking j))
+    → HasPrice network q route (busWeightOf q * driving + sum (riderCountOf q) (λ j. riderWeightOf q j * walking j))
+meetings-price {network} q {route} {driving} walking drives meets =
     let (meetings, size, met) = collect (riderCountOf q) (λ j p. Meeting network q route j p (walking j)) meets in
-    record { meetings = meetings; size = size; prices = record { driving = driving; walking = walking; drives = drives; meets = met; adds = refl } }
+    let price : Price network q route meetings _ = record { driving = driving; walking = walking; drives = drives; meets = met; adds = refl } in
+    record { meetings = meetings; size = size; prices = price }
 
 module _ {network : List ℕ} (sound : SoundNetwork network) {q : Request} (value : SoundValue (nodeCount network) q) (route : List ℕ) where
-  -- Of the distances to the positions that a rider reaches one is the least, and of the positions with that distance one is the earliest.
+  -- Of the distances to the positions that a rider reaches one is the least, and of the positions with that distance one is the
+  -- earliest.
   pub nearest : {j : ℕ} → j < riderCountOf q → Reaches network q route j → (d : ℕ) × ((p : ℕ) × Meeting network q route j p d)
   nearest {j} h r = (
     least .number,
     (
-      first .number,
+      least .holds .number,
       record {
-        within = omega (arith, first .within);
-        walks = first .holds;
+        within = omega (arith, least .holds .within);
+        walks = least .holds .holds;
         least = λ other c g far. elim (decLt c (least .number)) [ yes l ↦ absurd (least .first c l (earliest c g far)) | no l ↦ omega arith ];
-        earliest = first .first;
+        earliest = least .holds .first;
       },
     ),
   )
     where
-      At : ℕ → ℕ → Type 0
-      At d i = RiderWalks network q j (nodeAt network (q .source) route i) d
+      Near : ℕ → ℕ → Type 0
+      Near d i = RiderWalks network q j (nodeAt network (q .source) route i) d
 
-      dec : (d i : ℕ) → Dec (At d i)
-      dec d i = dec-distance network (nodeAt network (q .source) route i) sound (value .nodes j h) d
+      dec : (d i : ℕ) → Dec (Near d i)
+      dec d i = dec-rider-walks sound value h (nodeAt network (q .source) route i) d
 
-      earliest : {i : ℕ} (d : ℕ) → i ≤ length route → At d i → Lowest (At d) (suc (length route))
+      earliest : {i : ℕ} (d : ℕ) → i ≤ length route → Near d i → LowestBelow (Near d) (suc (length route))
       earliest d g far = lowest-of (dec d) (omega arith) far
 
-      some : (d : ℕ) × At d (r .position)
-      some = some-distance network (nodeAt network (q .source) route (r .position)) sound (value .nodes j h) (r .walk)
-
-      least : Lowest (λ d. Lowest (At d) (suc (length route))) (suc (some .0))
-      least = lowest-of (λ d. dec-lowest (dec d) (suc (length route))) {i = some .0} (omega arith) (earliest (some .0) (r .within) (some .1))
-
-      first : Lowest (At (least .number)) (suc (length route))
-      first = least .holds
+      least : LowestBelow (λ d. LowestBelow (Near d) (suc (length route))) (suc (r .distance))
+      least =
+          lowest-of (λ d. dec-lowest (dec d) (suc (length route))) {i = r .distance} (omega arith) (earliest (r .distance) (r .within) (r .walks))
 
   -- A legal route whose riders all reach it has a price.
-  pub route-price : {driving : ℕ} → Route network q route driving → ((j : ℕ) → j < riderCountOf q → Reaches network q route j) → (price : ℕ) × HasPrice network q route price
+  pub route-price : {driving : ℕ} → Route network q route driving → ((j : ℕ) → j < riderCountOf q → Reaches network q route j)
+      → (price : ℕ) × HasPrice network q route price
   route-price drives reaches =
       let (distances, size, near) = collect (riderCountOf q) (λ j d. (p : ℕ) × Meeting network q route j p d) (λ j h. nearest h (reaches j h)) in
-      (_, meet q (λ j. getD distances j 0) drives near)
+      (_, meetings-price q (λ j. getD distances j 0) drives near)

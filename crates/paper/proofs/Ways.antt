@@ -8,19 +8,22 @@ use Rattle.paper.specs.Alike.{Within}
 
 module _ {Link Other : ℕ → ℕ → ℕ → ℕ → Type 0} where
   -- Links that lead alike lead the same way.
-  pub way-same : {u v c : ℕ} {links : List ℕ} → ((k u v w : ℕ) → List·Memᴰ k links → Link k u v w → Other k u v w) → Way Link v u links c → Way Other v u links c
+  pub way-same : {u v c : ℕ} {links : List ℕ} → ((k u v w : ℕ) → List·Memᴰ k links → Link k u v w → Other k u v w)
+      → Way Link v u links c → Way Other v u links c
   way-same alike (arrived here free) = arrived here free
   way-same alike (along x w rest link way e) =
       along x w rest (alike _ _ x w (List·Memᴰ·head refl) link) (way-same (λ k u v w h. alike k u v w (List·Memᴰ·tail h)) way) e
 
+  pub within-same : ((k u v w : ℕ) → Link k u v w → Other k u v w) → {u v c most : ℕ} → c ≤ most → Within Link u v c → Within Other u v most
+  within-same alike h a =
+      record { links = a .links; sum = a .sum; way = way-same (λ k u v w h. alike k u v w) (a .way); cheap = omega arith }
+
 module _ {Link : ℕ → ℕ → ℕ → ℕ → Type 0} where
   -- One way behind another.
-  pub way-append : {u x v c d : ℕ} {links others : List ℕ} → Way Link x u links c → Way Link v x others d → Way Link v u (links ++ others) (c + d)
+  way-append : {u x v c d : ℕ} {links others : List ℕ} → Way Link x u links c → Way Link v x others d → Way Link v u (links ++ others) (c + d)
   way-append {v} {others} (arrived here free) way = subst₂ (λ (y z : ℕ). Way Link v y others z) (sym here) (omega arith) way
   way-append {c} {d} (along y w rest link way e) other = along {c = c + d} y w (rest + d) link (way-append way other) (omega arith)
 
   pub within-append : {u x v c d most : ℕ} → Within Link u x c → Within Link x v d → c + d ≤ most → Within Link u v most
-  within-append a b e = record { links = a .links ++ b .links; sum = a .sum + b .sum; way = way-append (a .way) (b .way); cheap = omega arith }
-
-pub within-same : {Link Other : ℕ → ℕ → ℕ → ℕ → Type 0} → ((k u v w : ℕ) → Link k u v w → Other k u v w) → {u v c most : ℕ} → c ≤ most → Within Link u v c → Within Other u v most
-within-same alike h a = record { links = a .links; sum = a .sum; way = way-same (λ k u v w h. alike k u v w) (a .way); cheap = omega arith }
+  within-append a b e =
+      record { links = a .links ++ b .links; sum = a .sum + b .sum; way = way-append (a .way) (b .way); cheap = omega arith }

@@ -1,16 +1,15 @@
 -- Two networks that agree in part.
 use Prim.Native.Nat.{ℕ, _≤_, _<_}
 use mathlib.Core.Path.{_≡_}
-use mathlib.Core.Logic.{_⊎_, _≢_, _↔_}
+use mathlib.Core.Logic.{_≢_, _↔_}
 use mathlib.Core.List.{List, List·Memᴰ}
 use Rattle.rules.specs.Network.{linkCount, from, to, drive, walk}
 use Rattle.rules.specs.Walks.{Way, Walkable}
 use Rattle.rules.specs.Routes.{RiderWalks}
 use Rattle.rules.specs.declared.Request.{Request}
 use Rattle.rules.specs.Request.{riderCountOf}
-use Rattle.rules.specs.Limits.{closed}
 
--- The same links between the same nodes, at whatever costs. (The number of nodes plays no part in a price.)
+-- The same links between the same nodes, at whatever costs. (How many nodes there are plays no part in a price.)
 pub record SameLinks (a b : List ℕ) : Type 0 where
   pub count : linkCount a ≡ linkCount b
   pub starts : (k : ℕ) → k < linkCount a → from a k ≡ from b k
@@ -25,10 +24,6 @@ pub record SameDriving (a b : List ℕ) : Type 0 where
 pub record SameWalking (a b : List ℕ) : Type 0 where
   pub links : SameLinks a b
   pub walks : (k : ℕ) → k < linkCount a → walk a k ≡ walk b k
-
--- The links exist.
-abbrev pub KnownLinks : List ℕ → List ℕ → Type 0
-KnownLinks network links = (k : ℕ) → List·Memᴰ k links → k < linkCount network
 
 -- The links of the route cost the bus the same.
 abbrev pub SameOnRoute : List ℕ → List ℕ → List ℕ → Type 0
@@ -51,10 +46,11 @@ pub record Within (Link : ℕ → ℕ → ℕ → ℕ → Type 0) (u v c : ℕ) 
   pub way : Way Link v u links sum
   pub cheap : sum ≤ c
 
--- the links open to walkers other than k
+-- the links other than k that can be walked
 abbrev pub Besides : List ℕ → ℕ → ℕ → ℕ → ℕ → ℕ → Type 0
 Besides network k other u v w = (other ≢ k) × Walkable network other u v w
 
--- No one can walk better by link k: it is closed to walkers, or a walk along other links leads from its start to its end and costs no more.
+-- No one walks better by link k: wherever it can be walked, a walk along other links leads from there to there and costs no more. A
+-- link that is closed to walkers can be walked nowhere.
 abbrev pub Needless : List ℕ → ℕ → Type 0
-Needless network k = (closed ≤ walk network k) ⊎ Within (Besides network k) (from network k) (to network k) (walk network k)
+Needless network k = (u v w : ℕ) → Walkable network k u v w → Within (Besides network k) u v w

@@ -1,4 +1,5 @@
--- The problem of source document 000 in its own terms: an undirected graph with weights, paths and their cost c, shortest paths, and equations (1) to (3).
+-- The problem of source document 000 in its own terms: an undirected graph with weights, paths and their cost c, shortest paths, and
+-- equations (1) to (3).
 use Prim.Native.Nat.{ℕ, _+_, _≤_, _<_}
 use mathlib.Core.Path.{_≡_}
 use mathlib.Core.List.{List, [], _∷_, List·Memᴰ}
@@ -46,7 +47,8 @@ pub record Query : Type 0 where
 abbrev pub average : Fraction → ℕ → ℕ → Fraction
 average alpha c d = plus (times alpha c) (times (oneMinus alpha) d)
 
--- (2): P is a path from s to t, and f(P) is f: the average of c(P) and d(U, nodes of the path), the sum of d(u, nodes of the path) over U.
+-- (2): P is a path from s to t, and f(P) is f: the average of c(P) and d(U, nodes of the path), which is the sum of d(u, nodes of the
+-- path) over U.
 pub record Cost (G : Graph) (query : Query) (P : List ℕ) (f : Fraction) : Type 0 where
   pub c : ℕ
   pub d : ℕ → ℕ

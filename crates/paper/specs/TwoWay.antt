@@ -1,12 +1,14 @@
--- Where document 01 and the paper meet: "If all links exist both ways, each way driven and walked at one and the same cost, and every rider weighs w, our price is (a+w) times the paper's f with alpha = a/(a+w), where a is the bus weight."
+-- Where the rules and source document 000 meet: all links exist both ways, each way driven and walked at one and the same cost, and
+-- every rider weighs the same. There the price is a + w times the paper's f with alpha = a / (a + w), where a is the bus weight and w
+-- a rider's.
 use Prim.Native.Nat.{ℕ, _+_, _<_}
 use mathlib.Core.Path.{_≡_}
 use mathlib.Core.Logic.{_⊎_, ⊎-swap}
-use mathlib.Core.List.{List, map}
+use mathlib.Core.List.{List, [], _∷_, map}
 use native.Mathlib.Omega.{arith}
 use Rattle.rules.specs.Network.{linkCount, from, to, drive, walk}
 use Rattle.rules.specs.Request.{riderNodeOf, riderWeightOf, riderCountOf, busWeightOf}
-use Rattle.rules.specs.Walks.{Walkable}
+use Rattle.rules.specs.Walks.{Way, arrived, along, Walkable}
 use Rattle.rules.specs.declared.Request.{Request}
 use Rattle.rules.specs.Limits.{closed}
 use Rattle.paper.specs.Fraction.{Fraction, times, IsWhole}
@@ -23,7 +25,8 @@ pub record Back (network : List ℕ) (k : ℕ) : Type 0 where
 
 -- A link that is open to the bus or to walkers costs both the same, and there is a link back.
 pub record TwoWay (network : List ℕ) : Type 0 where
-  pub alike : (k : ℕ) → k < linkCount network → (drive network k < closed) ⊎ (walk network k < closed) → drive network k ≡ walk network k
+  pub alike : (k : ℕ) → k < linkCount network → (drive network k < closed) ⊎ (walk network k < closed)
+      → drive network k ≡ walk network k
   pub back : (k : ℕ) → k < linkCount network → walk network k < closed → Back network k
 
 -- The graph of such a network: each open link is an edge, which may be taken either way.
@@ -41,7 +44,8 @@ pub record EqualWeights (q : Request) (w : ℕ) : Type 0 where
   pub positive : 0 < w
   pub riders : (j : ℕ) → j < riderCountOf q → riderWeightOf q j ≡ w
 
--- The paper weighs the driver's cost α and the riders' 1 - α. With α = a/(a+w) that is a : w, in whole numbers (a+w) × α = a and (a+w) × (1 - α) = w.
+-- The paper weighs the driver's cost α and the riders' 1 - α. With α = a/(a+w) that is a : w, in whole numbers (a+w) × α = a and
+-- (a+w) × (1 - α) = w.
 abbrev pub queryOf : (q : Request) (w : ℕ) → EqualWeights q w → Query
 queryOf q w weights =
     record {
@@ -54,7 +58,12 @@ queryOf q w weights =
       below = omega arith;
     }
 
--- the nodes of a route behind the source
+-- The nodes that a way passes behind its start.
+unfoldable pub wayNodes : {Link : ℕ → ℕ → ℕ → ℕ → Type 0} {u v c : ℕ} {links : List ℕ} → Way Link v u links c → List ℕ
+wayNodes (arrived here free) = []
+wayNodes (along x w rest link way e) = x ∷ wayNodes way
+
+-- Of a route, these are where its links lead to.
 abbrev pub nodesOf : List ℕ → List ℕ → List ℕ
 nodesOf network route = map (to network) route
 

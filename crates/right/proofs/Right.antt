@@ -5,16 +5,17 @@ use mathlib.Core.List.{List}
 use lib.ListN.{length}
 use native.Mathlib.Nat.{zero-add, le-of-mul-le-mul-left}
 use native.Mathlib.Omega.{arith}
+use Rattle.rules.specs.Limits.{mostRiders}
 use Rattle.rules.specs.Request.{riderWeightOf, SoundValue, riderCountOf}
 use Rattle.rules.specs.Routes.{RiderWalks, nodeAt, Meeting, Price}
 use Rattle.rules.specs.Plans.{Plan, RightPlan, NoLater}
 use Rattle.rules.specs.declared.Request.{Request}
-use Rattle.rules.proofs.WalkLaws.{distance-unique}
+use Rattle.rules.proofs.RiderLaws.{rider-walks-unique}
+use Rattle.rules.proofs.PlanLaws.{all-below, few-sets}
 use Rattle.finish.proofs.Sets.{all-have}
 use Rattle.right.specs.Steps.{drivesOf, metAt, positionsOf, SumAt}
-use Rattle.right.proofs.Sets.{first-small}
-use Rattle.right.proofs.Steps.{position-at}
-use Rattle.right.proofs.Adding.{added-length, added-drives, added-at, take, put}
+use Rattle.right.proofs.Steps.{meets-low, position-at}
+use Rattle.right.proofs.Meetings.{besides-length, besides-drives, besides-at, leave-out, insert}
 use Rattle.right.proofs.Routes.{plan-sum}
 
 -- The plan with rider j met at the position p instead, where the rider has the walking distance e instead of d.
@@ -27,32 +28,36 @@ record Moved (network : List ℕ) (q : Request) (steps : List ℕ) (cost j p d e
   earlier : p < metAt j steps → NoLater steps others → ⊥
 
 module _ {network : List ℕ} {q : Request} where
-  -- The meeting is taken out and put in at p. If that is earlier, then up to there the steps are the same; next comes j, which is below 8, where the plan had a drive step.
-  moved : {steps : List ℕ} {cost p d e : ℕ} (j : ℕ) → riderCountOf q ≤ 7 → j < riderCountOf q → Plan network q steps cost
+  -- The meeting is left out and inserted at p. If that is earlier, then up to there the steps are the same; next comes the meeting,
+  -- a low number, where the plan had a drive step.
+  moved : {steps : List ℕ} {cost p d e : ℕ} (j : ℕ) → riderCountOf q ≤ mostRiders → j < riderCountOf q → Plan network q steps cost
       → RiderWalks network q j (nodeAt network (q .source) (drivesOf steps) (metAt j steps)) d
       → p ≤ length (drivesOf steps)
       → RiderWalks network q j (nodeAt network (q .source) (drivesOf steps) p) e
       → Moved network q steps cost j p d e
   moved {steps} {cost} {p} {d} {e} j riders h f walked within walks =
-      let rider : j < 8 = omega arith in
-      let small = first-small (riderCountOf q) riders in
+      let small = few-sets riders (all-below q) in
       let has = all-have (riderCountOf q) j .1 h in
-      let t = take small has f in
-      let drives = added-drives rider (t .added) in
-      let place = added-at rider (t .added) in
-      let same : t .d ≡ d = distance-unique (t .walks) (rw (drives, place) at walked) in
-      let u = put {d = e} small has refl (t .finishes) p (rw drives at within) (rw drives at walks) in
+      let rider = meets-low small has in
+      let t = leave-out small has f in
+      let drives = besides-drives rider (t .besides) in
+      let place = besides-at rider (t .besides) in
+      let same : t .distance ≡ d = rider-walks-unique (t .walks) (rw (drives, place) at walked) in
+      let u = insert {d = e} small has refl (t .finishes) p (rw drives at within) (rw drives at walks) in
       record {
         others = u .others;
         paid = riderWeightOf q j * e + t .rest;
         plans = u .finishes;
         costs = omega (arith, rw same at (t .costs));
-        counts = added-length (u .added) ∙ sym (added-length (t .added));
-        earlier = λ less. u .ahead (t .position) steps (rw place at less) (t .added);
+        counts = besides-length (u .besides) ∙ sym (besides-length (t .besides));
+        earlier = λ less. u .ahead (t .position) steps (rw place at less) (t .besides);
       }
 
-  -- The right plan's cost is the price of its route, and each rider is met at its meeting position. At a nearer position the rider could be met for less, and at an earlier one with the same distance for the same cost, in as many steps, and first in the dictionary.
-  pub right-price : {n : ℕ} {steps : List ℕ} {cost : ℕ} → SoundValue n q → RightPlan network q steps cost → Price network q (drivesOf steps) (positionsOf q steps) cost
+  -- The right plan's cost is the price of its route, and each rider is met at its meeting position. At a nearer position the rider
+  -- could be met for less, and at an earlier one with the same distance for the same cost, in as many steps, and first in the
+  -- dictionary.
+  pub right-price : {n : ℕ} {steps : List ℕ} {cost : ℕ} → SoundValue n q → RightPlan network q steps cost
+      → Price network q (drivesOf steps) (positionsOf q steps) cost
   right-price {steps = steps} {cost} sound right =
       record {
         driving = s .driving;
@@ -75,7 +80,8 @@ module _ {network : List ℕ} {q : Request} where
             walks = s .walks j h;
             least = λ other e within walks.
                 let m = moved j (sound .riders) h plan (s .walks j h) within walks in
-                le-of-mul-le-mul-left {k = riderWeightOf q j} (omega (arith, m .costs, right .best .cheapest (m .others) (m .paid) (m .plans))) (sound .weights j h .0);
+                let cheap = right .best .cheapest (m .others) (m .paid) (m .plans) in
+                le-of-mul-le-mul-left {k = riderWeightOf q j} (omega (arith, m .costs)) (sound .weights j h .0);
             earliest = λ other less walks.
                 let m = moved j (sound .riders) h plan (s .walks j h) (omega (arith, s .within j h)) walks in
                 m .earlier less (right .first (m .others) (subst (Plan network q (m .others)) (omega (arith, m .costs)) (m .plans)) (m .counts));

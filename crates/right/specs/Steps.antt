@@ -5,6 +5,7 @@ use mathlib.Core.Bool.{cond}
 use mathlib.Core.List.{List, [], _∷_}
 use lib.ListN.{length}
 use lib.Dec.{ltb, eqb}
+use Rattle.rules.specs.Limits.{firstDrive}
 use Rattle.rules.specs.Request.{riderWeightOf, riderCountOf, busWeightOf}
 use Rattle.rules.specs.Routes.{Route, Reaches, RiderWalks, nodeAt, sum}
 use Rattle.rules.specs.Plans.{Finish}
@@ -13,12 +14,12 @@ use Rattle.rules.specs.declared.Request.{Request}
 -- the links of the drive steps, in order
 unfoldable pub drivesOf : List ℕ → List ℕ
 drivesOf [] = []
-drivesOf (step ∷ steps) = cond (ltb step 8) (drivesOf steps) ((step - 8) ∷ drivesOf steps)
+drivesOf (step ∷ steps) = cond (ltb step firstDrive) (drivesOf steps) ((step - firstDrive) ∷ drivesOf steps)
 
 -- the position at which rider j is met: the number of drive steps before step j
 unfoldable pub metAt : ℕ → List ℕ → ℕ
 metAt j [] = 0
-metAt j (step ∷ steps) = cond (eqb step j) 0 (cond (ltb step 8) (metAt j steps) (suc (metAt j steps)))
+metAt j (step ∷ steps) = cond (eqb step j) 0 (cond (ltb step firstDrive) (metAt j steps) (suc (metAt j steps)))
 
 -- how often rider j is met
 unfoldable pub timesMet : ℕ → List ℕ → ℕ
@@ -33,7 +34,8 @@ positionsFrom (suc count) j steps = metAt j steps ∷ positionsFrom count (suc j
 abbrev pub positionsOf : Request → List ℕ → List ℕ
 positionsOf q = positionsFrom (riderCountOf q) 0
 
--- A route with a position for each rider, and the sum of the rules of cost, taken at the nodes of these positions. The price is this sum at the meeting positions.
+-- A route with a position for each rider, and what driving it and walking to these positions cost together. At the meeting positions
+-- this is the price (2.6).
 pub record SumAt (network : List ℕ) (q : Request) (route : List ℕ) (position : ℕ → ℕ) (cost : ℕ) : Type 0 where
   pub driving : ℕ
   pub walking : ℕ → ℕ
@@ -42,7 +44,8 @@ pub record SumAt (network : List ℕ) (q : Request) (route : List ℕ) (position
   pub walks : (j : ℕ) → j < riderCountOf q → RiderWalks network q j (nodeAt network (q .source) route (position j)) (walking j)
   pub adds : cost ≡ busWeightOf q * driving + sum (riderCountOf q) (λ j. riderWeightOf q j * walking j)
 
--- Steps that drive the route, meet exactly the riders below `count`, each at its position, and come to the cost. With all riders this is a plan.
+-- Steps that drive the route, meet exactly the riders below `count`, each at its position, and come to the cost. With all riders this
+-- is a plan.
 pub record Along (network : List ℕ) (q : Request) (count : ℕ) (route : List ℕ) (position : ℕ → ℕ) (cost : ℕ) : Type 0 where
   pub steps : List ℕ
   pub finishes : Finish network q (2 ^ count - 1) (q .source) steps cost
@@ -51,4 +54,8 @@ pub record Along (network : List ℕ) (q : Request) (count : ℕ) (route : List 
 
 -- No drive from source to target passes, for each rider, a node that the rider can walk to.
 abbrev pub NoDrive : List ℕ → Request → Type 0
-NoDrive network q = (route : List ℕ) (driving : ℕ) → Route network q route driving → ((j : ℕ) → j < riderCountOf q → Reaches network q route j) → ⊥
+NoDrive network q =
+    (route : List ℕ) (driving : ℕ)
+    → Route network q route driving
+    → ((j : ℕ) → j < riderCountOf q → Reaches network q route j)
+    → ⊥

@@ -1,6 +1,6 @@
 -- What a link gives that can be walked or driven, and that two nodes settle their walking distance. Whoever needs something of a
 -- walkable link asks here, so that what walking a link means can change in one place.
-use Prim.Native.Nat.{ℕ, _<_}
+use Prim.Native.Nat.{ℕ, _<_, _≤_}
 use mathlib.Core.Path.{_≡_, refl}
 use mathlib.Core.Logic.{_⊎_, inl, inr}
 use mathlib.Core.List.{List, []}
@@ -32,13 +32,20 @@ module _ {network : List ℕ} {k u v w : ℕ} where
   pub walk-along : Leads network (walk network) k u v w → Walkable network k u v w
   walk-along l = l
 
-  -- joins two nodes,
+  -- exists and joins two nodes,
+  pub walk-exists : Walkable network k u v w → k < linkCount network
+  walk-exists l = l .exists
+
   pub walk-joins : SoundNetwork network → Walkable network k u v w → Joins network k u v w
   walk-joins sound l = leads-joins sound l
 
   -- costs what it costs to walk,
   pub walk-costs : Walkable network k u v w → walk network k ≡ w
   walk-costs l = l .costs
+
+  -- leads there or back,
+  pub walk-leads : Walkable network k u v w → Leads network (walk network) k u v w ⊎ Leads network (walk network) k v u w
+  walk-leads l = inl l
 
   -- and what holds of the way it leads holds of each way it can be walked.
   pub walk-either : (P : ℕ → ℕ → Type 0)
@@ -74,6 +81,17 @@ pub leads-same : {a b : List ℕ} {cost other : ℕ → ℕ} {k u v w : ℕ}
     → Leads b other k u v w
 leads-same count starts ends costs l =
     record { exists = omega (arith, l .exists); starts = cc; ends = cc; costs = cc; opened = l .opened }
+
+-- A link that leads alike in the other network, and costs walkers no more there, can be walked alike there.
+pub walk-alike : {a b : List ℕ} {k u v w : ℕ}
+    → linkCount a ≡ linkCount b
+    → from a k ≡ from b k
+    → to a k ≡ to b k
+    → walk b k ≤ walk a k
+    → Walkable a k u v w
+    → Walkable b k u v (walk b k)
+walk-alike count starts ends less l =
+    record { exists = omega (arith, l .exists); starts = cc; ends = cc; costs = refl; opened = omega (arith, l .opened, l .costs) }
 
 -- The costs of one list of links add up to one sum, wherever it starts.
 pub way-sum : {network : List ℕ} {cost : ℕ → ℕ} {u v x y c d : ℕ} {links : List ℕ}
