@@ -1,13 +1,10 @@
--- The three rooms of the search.
+-- What the search is lent.
 use Prim.Native.Nat.{ℕ}
 use mathlib.Core.List.{List}
 use Rattle.rules.specs.Network.{SoundNetwork, nodeCount}
 use Rattle.rules.specs.Request.{SoundValue, riderCountOf}
-use Rattle.rules.specs.declared.Request.{Request}
 use Rattle.rules.specs.Rooms.{Lent, Enough}
-
-abbrev pub lent : List ℕ → List ℕ → List ℕ → Lent
-lent distances table steps = record { distances = distances; table = table; steps = steps }
+use Rattle.rules.specs.declared.Request.{Request}
 
 -- Sound records, and rooms with enough places.
 pub record Roomy (network : List ℕ) (q : Request) (before : Lent) : Type 0 where

@@ -1,14 +1,15 @@
 // The search in rooms that are known to be large enough, for records that were read.
 use crate::steps::read_plan;
-use crate::steps::value;
 use rules::NO_FINISH;
 use rules::Planned;
 use rules::Refusal;
 use rules::Request;
+use rules::STEP_RANGE;
 use rules::Verdict;
 use table::inner::fill_distances;
 use table::inner::fill_table;
 use table::inner::rider_bit;
+use table::inner::value;
 ghost use Rattle.rules.specs.Answers.{plannedOutcome, Searching};
 ghost use Rattle.rules.specs.Rooms.{lent};
 ghost use Rattle.search.specs.Rooms.{Roomy};
@@ -22,7 +23,9 @@ pub fn plan(
     steps: &mut [u16],
 ) -> Planned
     requires { ⌜ Roomy (now network) q (lent (now distances) (now table) (now steps)) ⌝ }
-    ensures { λ r. ⌜ Searching Verdict.Accepted (now (network .entry)) q (lent (now (distances .entry)) (now (table .entry)) (now (steps .entry))) (lent (now (distances .exit)) (now (table .exit)) (now (steps .exit))) (plannedOutcome r) ⌝ }
+    ensures { λ r. ⌜ Searching Verdict.Accepted (now (network .entry)) q
+        (lent (now (distances .entry)) (now (table .entry)) (now (steps .entry)))
+        (lent (now (distances .exit)) (now (table .exit)) (now (steps .exit))) (plannedOutcome r) ⌝ }
 {
     fill_distances(network, q, distances);
     fill_table(network, q, distances, table);
@@ -40,7 +43,7 @@ pub fn plan(
     }
     read_plan(network, q, distances, table, steps);
     Planned::Plan {
-        cost: best / 4096,
-        count: (best % 4096) as usize,
+        cost: best / STEP_RANGE,
+        count: (best % STEP_RANGE) as usize,
     }
 }

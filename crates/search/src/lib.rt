@@ -12,6 +12,7 @@ use table::inner::rider_bit;
 ghost use Prim.Native.Nat.{_≤_};
 ghost use mathlib.Core.Path.{_≡_};
 ghost use Rattle.rules.specs.Checks.{firstOf};
+ghost use Rattle.rules.specs.Limits.{mostNodes, mostRiders};
 ghost use Rattle.rules.specs.Answers.{plannedOutcome, roomChecks, Searched};
 ghost use Rattle.rules.specs.Rooms.{lent};
 
@@ -24,7 +25,9 @@ pub fn search(
     table: &mut [u64],
     steps: &mut [u16],
 ) -> Planned
-    ensures { λ r. ⌜ Searched (now (network .entry)) (now (request .entry)) (lent (now (distances .entry)) (now (table .entry)) (now (steps .entry))) (lent (now (distances .exit)) (now (table .exit)) (now (steps .exit))) (plannedOutcome r) ⌝ }
+    ensures { λ r. ⌜ Searched (now (network .entry)) (now (request .entry))
+        (lent (now (distances .entry)) (now (table .entry)) (now (steps .entry)))
+        (lent (now (distances .exit)) (now (table .exit)) (now (steps .exit))) (plannedOutcome r) ⌝ }
 {
     let read = read_request(network, request);
     let verdict = read.verdict;
@@ -42,7 +45,7 @@ pub fn search(
 
 // Refusals 21 to 23 of rooms with so many places, for n nodes and l riders.
 fn rooms_verdict(n: usize, l: usize, distances: usize, table: usize, steps: usize) -> Verdict
-    requires { ⌜ (1 ≤ n) × (n ≤ 512) × (l ≤ 7) ⌝ }
+    requires { ⌜ (1 ≤ n) × (n ≤ mostNodes) × (l ≤ mostRiders) ⌝ }
     ensures { λ r. ⌜ r ≡ firstOf (roomChecks n l distances table steps) ⌝ }
 {
     if distances < l * n {

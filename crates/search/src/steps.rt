@@ -1,20 +1,23 @@
 // Reading the plan off the table: the lowest step that makes up the value, time after time.
 use records::inner::drive;
 use records::inner::from;
-use records::inner::link_count;
 use records::inner::to;
 use rules::CLOSED;
+use rules::FIRST_DRIVE;
 use rules::NO_FINISH;
 use rules::Request;
-use table::inner::meeting_step;
-use table::inner::place;
+use rules::inner::packed_step;
+use table::inner::first_meeting;
 use table::inner::rider_bit;
+use table::inner::value;
 ghost use Prim.Native.Nat.{_+_, _≤_, _<_};
 ghost use mathlib.Core.Path.{_≡_};
-ghost use lib.ListN.{length};
 ghost use lib.Dec.{eqb};
-ghost use Rattle.rules.specs.Network.{SoundNetwork, nodeCount, linkCount};
-ghost use Rattle.search.specs.Known.{Stands, valuePlace, valueAt, drivingStep, NoMeeting, IsNext, LowestMeeting, Planning, PlanWritten};
+ghost use Rattle.rules.specs.Limits.{mostWeight};
+ghost use Rattle.rules.specs.Network.{SoundNetwork, linkCount, to};
+ghost use Rattle.rules.specs.Request.{busWeightOf};
+ghost use Rattle.table.specs.Filling.{KnownDistances, valueAt};
+ghost use Rattle.search.specs.Known.{Stands, drivingStep, NoMeeting, IsNext, LowestMeeting, Planning, PlanWritten};
 
 // A step of the plan, and where it leads: the riders then still to be met, and the node.
 pub struct Move {
@@ -23,12 +26,10 @@ pub struct Move {
     pub node: usize,
 }
 
-// The value at a rider set and a node.
-pub fn value(network: &[u8], table: &[u64], riders: u32, v: usize) -> u64
-    requires { ⌜ SoundNetwork (now network) × (riders < 128) × (v < nodeCount (now network)) × (valuePlace (now network) riders v < length (now table)) ⌝ }
-    ensures { λ r. ⌜ r ≡ valueAt (now (network .entry)) (now (table .entry)) riders v ⌝ }
-{
-    table[place(network, riders as usize, v)]
+// The lowest tight meeting, where there is one.
+pub enum NextMeeting {
+    Met(Move),
+    Nobody,
 }
 
 // Whether a step and the value behind it make up the value here.
@@ -41,7 +42,7 @@ fn makes_up(here: u64, step: u64, behind: u64) -> bool
     here - behind == step
 }
 
-// The lowest tight meeting at v, or step 8 where there is none.
+// The lowest tight meeting at v.
 fn next_meeting(
     network: &[u8],
     q: Request,
@@ -49,36 +50,29 @@ fn next_meeting(
     table: &[u64],
     riders: u32,
     v: usize,
-) -> Move
-    requires { ⌜ Stands (now network) q (now distances) (now table) riders v ⌝ }
+) -> NextMeeting
+    requires { ⌜ Stands (now network) q (now table) riders v × KnownDistances (now network) q (now distances) ⌝ }
     ensures { λ r. ⌜ LowestMeeting (now (network .entry)) q (now (table .entry)) riders v r ⌝ }
 {
     let here = value(network, table, riders, v);
     let mut left = riders;
     while u32::count_ones(left) != 0 {
-        let j = u32::trailing_zeros(left);
-        let bit = rider_bit(j);
-        let step = meeting_step(network, q, distances, j as usize, v);
-        let behind = value(network, table, riders - bit, v);
-        if makes_up(here, step, behind) {
-            return Move {
-                step: j as usize,
-                riders: riders - bit,
+        let next = first_meeting(network, q, distances, table, riders, left, v);
+        if makes_up(here, next.step, next.rest) {
+            return NextMeeting::Met(Move {
+                step: next.rider as usize,
+                riders: next.riders,
                 node: v,
-            };
+            });
         }
-        left -= bit;
+        left = next.left;
     }
-    Move {
-        step: 8,
-        riders,
-        node: v,
-    }
+    NextMeeting::Nobody
 }
 
 // What it takes to drive link k from v, or none where that is no drive.
 fn driving_step(network: &[u8], weight: u64, v: usize, k: usize) -> u64
-    requires { ⌜ SoundNetwork (now network) × (k < linkCount (now network)) × (weight ≤ 100) ⌝ }
+    requires { ⌜ SoundNetwork (now network) × (k < linkCount (now network)) × (weight ≤ mostWeight) ⌝ }
     ensures { λ r. ⌜ r ≡ drivingStep (now (network .entry)) weight v k ⌝ }
 {
     let start = from(network, k);
@@ -89,41 +83,43 @@ fn driving_step(network: &[u8], weight: u64, v: usize, k: usize) -> u64
     if CLOSED <= cost {
         return NO_FINISH;
     }
-    4096 * (weight * cost) + 1
+    packed_step(weight * cost)
 }
 
-// The lowest tight drive from v, where no meeting is tight.
-fn next_drive(
+// Whether driving link k from v is tight.
+fn drive_makes_up(
     network: &[u8],
     q: Request,
-    distances: &[u32],
     table: &[u64],
     riders: u32,
     v: usize,
-) -> Move
-    requires { ⌜ Stands (now network) q (now distances) (now table) riders v × (0 < valueAt (now network) (now table) riders v) × NoMeeting (now network) q (now table) riders v ⌝ }
-    ensures { λ r. ⌜ IsNext (now (network .entry)) q (now (table .entry)) riders v r ⌝ }
+    k: usize,
+) -> bool
+    requires { ⌜ (k < linkCount (now network)) × Stands (now network) q (now table) riders v ⌝ }
+    ensures { λ r. ⌜ r ≡ eqb (valueAt (now (network .entry)) (now (table .entry)) riders v)
+        (drivingStep (now (network .entry)) (busWeightOf q) v k
+        + valueAt (now (network .entry)) (now (table .entry)) riders (to (now (network .entry)) k)) ⌝ }
 {
     let here = value(network, table, riders, v);
-    let m = link_count(network);
+    let step = driving_step(network, q.bus_weight, v, k);
+    let behind = value(network, table, riders, to(network, k));
+    makes_up(here, step, behind)
+}
+
+// The lowest tight drive from v, where some step is tight and no meeting is.
+fn next_drive(network: &[u8], q: Request, table: &[u64], riders: u32, v: usize) -> Move
+    requires { ⌜ Stands (now network) q (now table) riders v × (0 < valueAt (now network) (now table) riders v)
+        × NoMeeting (now network) q (now table) riders v ⌝ }
+    ensures { λ r. ⌜ IsNext (now (network .entry)) q (now (table .entry)) riders v r ⌝ }
+{
     let mut k = 0;
-    while k < m {
-        let node = to(network, k);
-        let step = driving_step(network, q.bus_weight, v, k);
-        let behind = value(network, table, riders, node);
-        if makes_up(here, step, behind) {
-            return Move {
-                step: 8 + k,
-                riders,
-                node,
-            };
-        }
+    while !drive_makes_up(network, q, table, riders, v, k) {
         k += 1;
     }
     Move {
-        step: 8,
+        step: FIRST_DRIVE + k,
         riders,
-        node: v,
+        node: to(network, k),
     }
 }
 
@@ -136,19 +132,20 @@ fn next_move(
     riders: u32,
     v: usize,
 ) -> Move
-    requires { ⌜ Stands (now network) q (now distances) (now table) riders v × (0 < valueAt (now network) (now table) riders v) ⌝ }
+    requires { ⌜ Stands (now network) q (now table) riders v × (0 < valueAt (now network) (now table) riders v)
+        × KnownDistances (now network) q (now distances) ⌝ }
     ensures { λ r. ⌜ IsNext (now (network .entry)) q (now (table .entry)) riders v r ⌝ }
 {
     let met = next_meeting(network, q, distances, table, riders, v);
-    if met.step < 8 {
-        return met;
+    if let NextMeeting::Met(next) = met {
+        return next;
     }
-    next_drive(network, q, distances, table, riders, v)
+    next_drive(network, q, table, riders, v)
 }
 
 // Writes the steps of the right plan at the start of the room.
 pub fn read_plan(network: &[u8], q: Request, distances: &[u32], table: &[u64], steps: &mut [u16])
-    requires { ⌜ Planning (now network) q (now distances) (now table) (now steps) ⌝ }
+    requires { ⌜ Planning (now network) q (now table) (now steps) × KnownDistances (now network) q (now distances) ⌝ }
     ensures { λ _. ⌜ PlanWritten (now (network .entry)) q (now (table .entry)) (now (steps .entry)) (now (steps .exit)) ⌝ }
 {
     let mut riders = rider_bit(q.rider_count as u32) - 1;

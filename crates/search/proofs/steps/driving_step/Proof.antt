@@ -1,3 +1,4 @@
+-- None where the link starts elsewhere or is closed to the bus, else the drive packed.
 use native.Mathlib.Omega.{arith}
 use native.Mathlib.Nat.{mul-le-mul, le-of-lt}
 use mathlib.Core.Path.{_∙_, sym}
@@ -10,20 +11,26 @@ returns : tie.Need-returns
 returns c = not-driven _ _ _ _ (λ e. c .if1 .taken (c .before .before .from .ensures .value ∙ e))
 
 returns-2 : tie.Need-returns-2
-returns-2 c = closed-drive _ _ _ _ (sym (c .before .before .before .from .ensures .value) ∙ c .before .if1 .left) (rw (c .before .before .drive .ensures .value) at (c .if2 .taken))
+returns-2 c =
+    closed-drive _ _ _ _ (sym (c .before .before .before .from .ensures .value) ∙ c .before .if1 .left)
+    (rw (c .before .before .drive .ensures .value) at (c .if2 .taken))
 
-mul-result : tie.Need-mul-result
-mul-result c = omega (arith, mul-le-mul (c .before .before .before .before .before .pre .2) (le-of-lt (c .before .before .drive .ensures .below)))
+mul-packed-step : tie.Need-mul-packed-step
+mul-packed-step c =
+    let entry = c .before .before .before .before .before in
+    omega (arith, mul-le-mul (entry .pre .2) (le-of-lt (c .before .before .drive .ensures .below)))
 
-mul-result-2 : tie.Need-mul-result-2
-mul-result-2 c = omega (arith, mul-le-mul (c .before .before .before .before .before .pre .2) (le-of-lt (c .before .before .drive .ensures .below)))
-
-add-result : tie.Need-add-result
-add-result c = omega (arith, mul-le-mul (c .before .before .before .before .before .pre .2) (le-of-lt (c .before .before .drive .ensures .below)))
+packed-step-requires : tie.Need-packed-step-requires
+packed-step-requires c κs =
+    let entry = c .before .before .before .before .before in
+    omega (arith, mul-le-mul (entry .pre .2) (le-of-lt (c .before .before .drive .ensures .below)))
 
 returns-3 : tie.Need-returns-3
 returns-3 c =
-    rw (c .before .before .drive .ensures .value) (open-drive _ _ _ _ (sym (c .before .before .before .from .ensures .value) ∙ c .before .if1 .left) (rw (c .before .before .drive .ensures .value) at (c .if2 .left)))
+    let at-drive = c .before .before .before in
+    let starts = sym (at-drive .before .from .ensures .value) ∙ c .before .before .if1 .left in
+    c .packed-step .ensures
+    ∙ rw (at-drive .drive .ensures .value) (open-drive _ _ _ _ starts (rw (at-drive .drive .ensures .value) at (c .before .if2 .left)))
 
 pub driving-step-spec : {M : Type 1} → statement M
 driving-step-spec =
@@ -33,7 +40,6 @@ driving-step-spec =
     (λ c κs. search needs)
     returns
     returns-2
-    mul-result
-    mul-result-2
-    add-result
+    mul-packed-step
+    packed-step-requires
     returns-3)

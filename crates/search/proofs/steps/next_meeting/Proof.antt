@@ -1,12 +1,11 @@
-use Prim.Native.Nat.{_^_, _≤_, _<_}
-use mathlib.Core.Path.{refl}
-use lib.Pow.{pow-pos}
-use Rattle.finish.specs.Sets.{Lowest}
-use Rattle.finish.proofs.Sets.{has-le, somebody}
+-- Invariant: of the riders, those of `left` are not tried yet, and no other is tightly met at v. Each turn takes the lowest rider out of
+-- `left`, so it gets smaller.
+use Prim.Native.Nat.{_+_}
 use native.Mathlib.Omega.{arith}
-use lib.Count.{trailingZeros}
+use Rattle.finish.proofs.Sets.{without-less}
 use Rattle.search.specs.Known.{Trying}
-use Rattle.search.proofs.StepLaws.{value-ready, trying-none, next-rider, rider-below, trying-more, trying-found, trying-all, made-up, not-made-up}
+use Rattle.search.proofs.StepLaws.{value-ready, trying-none, trying-tries, trying-more, trying-found, trying-all, next-met}
+use Rattle.search.proofs.StepLaws.{next-nobody, made-up, not-made-up}
 use Rattle.search.proofs.steps.next_meeting.Statement.{statement}
 use Rattle.search.proofs.steps.next_meeting.Tie as tie
 
@@ -17,63 +16,64 @@ abbrev μ-loop : tie.MeasureT-loop
 μ-loop network q distances table riders v here left₀ left = left
 
 value-requires : tie.Need-value-requires Inv-loop μ-loop
-value-requires c κs = value-ready (c .before .before .before .pre .known) (c .before .before .before .pre .set) (c .before .before .before .pre .node)
+value-requires c κs =
+    let at = c .before .before .before .pre .0 in
+    value-ready (at .known) (at .set) (at .node)
 
 loop-holds : tie.Need-loop-holds Inv-loop μ-loop
-loop-holds c = trying-none (c .before .before .before .before .pre)
+loop-holds c =
+    let entry = c .before .before .before .before in
+    trying-none (entry .pre .0) (entry .pre .1)
 
-rider : (c : tie.In-loop Inv-loop μ-loop) → Lowest (c .before .loop .left) (trailingZeros 32 (c .before .loop .left))
-rider c = next-rider (c .before .before .before .before .before .before .pre) (c .before .loop .inv) (somebody _ (c .loop-test .taken))
+first-meeting-requires : tie.Need-first-meeting-requires Inv-loop μ-loop
+first-meeting-requires c κs =
+    let at-before = c .before .before .before .before .before in
+    let entry = at-before .before in
+    trying-tries (entry .pre .0) (entry .pre .1) (c .before .loop .inv) (λ nobody. omega (arith, c .loop-test .taken))
 
-there : (c : tie.In-loop Inv-loop μ-loop) → trailingZeros 32 (c .before .loop .left) < c .before .before .before .before .before .before .args .q .«rider_count»
-there c = rider-below (c .before .before .before .before .before .before .pre) (c .before .loop .inv) _ (rider c)
-
-of : (c : tie.In-loop Inv-loop μ-loop) → 2 ^ trailingZeros 32 (c .before .loop .left) ≤ c .before .loop .left
-of c = has-le _ _ (rider c .has)
-
-rider-bit-requires : tie.Need-rider-bit-requires Inv-loop μ-loop
-rider-bit-requires c κs = omega (arith, there c, c .before .before .before .before .before .before .pre .known .walked .ready .request .riders)
-
-cast-meeting-step : tie.Need-cast-meeting-step Inv-loop μ-loop
-cast-meeting-step c = omega (arith, there (c .before), c .before .before .before .before .before .before .before .pre .known .walked .ready .request .riders)
-
-meeting-step-requires : tie.Need-meeting-step-requires Inv-loop μ-loop
-meeting-step-requires c κs = (there (c .before), c .before .before .before .before .before .before .before .pre .node, c .before .before .before .before .before .before .before .pre .known .walked .ready)
-
-sub-value : tie.Need-sub-value Inv-loop μ-loop
-sub-value c = omega (arith, of (c .before .before), c .before .before .before .loop .inv .within, c .before .rider-bit .ensures)
-
-value-requires-2 : tie.Need-value-requires-2 Inv-loop μ-loop
-value-requires-2 c κs = value-ready (c .before .before .before .before .before .before .before .before .pre .known) (omega (arith, c .before .before .before .before .before .before .before .before .pre .set)) (c .before .before .before .before .before .before .before .before .pre .node)
-
-cast-t17 : tie.Need-cast-t17 Inv-loop μ-loop
-cast-t17 c = omega (arith, there (c .before .before .before .before .before), c .before .before .before .before .before .before .before .before .before .before .before .pre .known .walked .ready .request .riders)
-
-sub-t18 : tie.Need-sub-t18 Inv-loop μ-loop
-sub-t18 c = omega (arith, of (c .before .before .before .before .before), c .before .before .before .before .before .before .loop .inv .within, c .before .before .before .before .rider-bit .ensures)
+cast-step : tie.Need-cast-t13 Inv-loop μ-loop
+cast-step c =
+    let at-before = c .before .before .before .before .before .before .before .before .before in
+    let entry = at-before .before in
+    omega (arith, c .before .before .before .first-meeting .ensures .below, entry .pre .0 .known .request .riders)
 
 returns : tie.Need-returns Inv-loop μ-loop
 returns c =
-    rw (c .before .before .before .before .rider-bit .ensures)
-    (trying-found (c .before .before .before .before .before .before .before .before .before .before .before .pre) (c .before .before .before .before .before .before .loop .inv) _ (rider (c .before .before .before .before .before))
-    (made-up (c .before .makes-up .ensures) (c .before .before .before .before .before .before .before .value .ensures) (c .before .before .before .meeting-step .ensures)
-    (rw (c .before .before .before .before .rider-bit .ensures) at (c .before .before .value2 .ensures)) (c .if1 .taken)))
-
-sub-left : tie.Need-sub-left Inv-loop μ-loop
-sub-left c = omega (arith, of (c .before .before .before .before .before), c .before .before .before .before .rider-bit .ensures)
+    let at-before = c .before .before .before .before .before .before .before .before .before in
+    let entry = at-before .before in
+    let at-loop = c .before .before .before .before .before in
+    let at-meeting = c .before .before .before in
+    let next = at-meeting .first-meeting .ensures in
+    let met = at-meeting .first-meeting .result in
+    let made = made-up (at-loop .before .value .result) (met .step + met .rest) (c .before .before .makes-up .ensures) (c .before .if1 .taken) in
+    rw (next .still)
+    (next-met (entry .pre .0)
+    (trying-found (entry .pre .0) (entry .pre .1) (at-loop .loop .inv) (met .rider) (next .lowest)
+    (rw (at-loop .before .value .ensures, next .step, next .rest) at made)))
 
 loop-less : tie.Need-loop-less Inv-loop μ-loop
-loop-less c = omega (arith, of (c .before .before .before .before .before), c .before .before .before .before .rider-bit .ensures, pow-pos (trailingZeros 32 (c .before .before .before .before .before .before .loop .left)))
+loop-less c =
+    let next = c .before .before .first-meeting .ensures in
+    omega (arith, next .leaves, without-less _ _ (next .lowest .has))
 
 loop-again : tie.Need-loop-again Inv-loop μ-loop
 loop-again c =
-    rw (c .before .before .before .before .rider-bit .ensures)
-    (trying-more (c .before .before .before .before .before .before .before .before .before .before .before .pre) (c .before .before .before .before .before .before .loop .inv) _ (rider (c .before .before .before .before .before))
-    (not-made-up (c .before .makes-up .ensures) (c .before .before .before .before .before .before .before .value .ensures) (c .before .before .before .meeting-step .ensures)
-    (rw (c .before .before .before .before .rider-bit .ensures) at (c .before .before .value2 .ensures)) (c .if1 .left)))
+    let at-before = c .before .before .before .before .before .before .before .before in
+    let entry = at-before .before in
+    let at-loop = c .before .before .before .before in
+    let at-meeting = c .before .before in
+    let next = at-meeting .first-meeting .ensures in
+    let met = at-meeting .first-meeting .result in
+    let loose = not-made-up (at-loop .before .value .result) (met .step + met .rest) (c .before .makes-up .ensures) (c .if1 .left) in
+    rw (next .leaves)
+    (trying-more (entry .pre .0) (entry .pre .1) (at-loop .loop .inv) (met .rider) (next .lowest)
+    (rw (at-loop .before .value .ensures, next .step, next .rest) at loose))
 
 returns-2 : tie.Need-returns-2 Inv-loop μ-loop
-returns-2 c = trying-all (c .before .before .before .before .before .before .pre) (c .before .loop .inv) (c .loop-test .left) refl
+returns-2 c =
+    let at-before = c .before .before .before .before .before in
+    let entry = at-before .before in
+    next-nobody (entry .pre .0) (trying-all (entry .pre .0) (entry .pre .1) (c .before .loop .inv) (c .loop-test .left))
 
 pub next-meeting-spec : {M : Type 1} → statement M
 next-meeting-spec =
@@ -83,16 +83,10 @@ next-meeting-spec =
     μ-loop
     value-requires
     loop-holds
-    rider-bit-requires
-    cast-meeting-step
-    meeting-step-requires
-    sub-value
-    value-requires-2
+    first-meeting-requires
     (λ c κs. tt)
-    cast-t17
-    sub-t18
+    cast-step
     returns
-    sub-left
     loop-less
     loop-again
     returns-2)

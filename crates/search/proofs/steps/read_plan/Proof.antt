@@ -1,8 +1,11 @@
+-- Invariant: the first i steps are written, and whatever finishes first from where the bus stands, put behind them, finishes first from the
+-- source. Each turn the value there gets smaller, since a step weighs something.
 use Prim.Native.Nat.{_<_}
 use mathlib.Core.Path.{sym, _∙_}
 use lib.Pow.{pow-pos}
 use native.Mathlib.Omega.{arith}
-use Rattle.search.specs.Known.{valueAt, Writing}
+use Rattle.table.specs.Filling.{valueAt}
+use Rattle.search.specs.Known.{Writing}
 use Rattle.search.proofs.StepLaws.{value-ready, step-small}
 use Rattle.search.proofs.WriteLaws.{writing-none, stands, room-left, writing-more, writing-done}
 use Rattle.search.proofs.steps.read_plan.Statement.{statement}
@@ -15,51 +18,89 @@ abbrev μ-loop : tie.MeasureT-loop
 μ-loop network q distances table steps₀ riders₀ v₀ i₀ steps riders v i = valueAt network table riders v
 
 cast-rider-bit : tie.Need-cast-rider-bit Inv-loop μ-loop
-cast-rider-bit c = omega (arith, c .before .before .before .before .before .pre .known .walked .ready .request .riders)
+cast-rider-bit c =
+    let entry = c .before .before .before .before .before in
+    omega (arith, entry .pre .0 .known .request .riders)
 
 rider-bit-requires : tie.Need-rider-bit-requires Inv-loop μ-loop
-rider-bit-requires c κs = omega (arith, c .before .before .before .before .before .pre .known .walked .ready .request .riders)
+rider-bit-requires c κs =
+    let entry = c .before .before .before .before .before in
+    omega (arith, entry .pre .0 .known .request .riders)
 
 sub-riders : tie.Need-sub-riders Inv-loop μ-loop
-sub-riders c = omega (arith, c .rider-bit .ensures, pow-pos (c .before .before .before .before .before .before .args .q .«rider_count»))
+sub-riders c =
+    let entry = c .before .before .before .before .before .before in
+    omega (arith, c .rider-bit .ensures, pow-pos (entry .args .q .«rider_count»))
 
 loop-holds : tie.Need-loop-holds Inv-loop μ-loop
-loop-holds c = rw (c .rider-bit .ensures) (writing-none (c .before .before .before .before .before .before .pre))
+loop-holds c =
+    let entry = c .before .before .before .before .before .before in
+    rw (c .rider-bit .ensures) (writing-none (entry .pre .0))
 
 value-requires : tie.Need-value-requires Inv-loop μ-loop
 value-requires c κs =
-    let at = stands (c .before .before .before .before .before .before .before .pre) (c .loop .inv) in
+    let entry = c .before .before .before .before .before .before .before in
+    let at = stands (entry .pre .0) (c .loop .inv) in
     value-ready (at .known) (at .set) (at .node)
 
-some : (c : tie.Then1 Inv-loop μ-loop) → 0 < valueAt (c .before .before .before .before .before .before .before .before .before .args .network .now) (c .before .before .before .before .before .before .before .before .before .args .table .now) (c .before .before .loop .riders) (c .before .before .loop .v)
+some : (c : tie.Then1 Inv-loop μ-loop)
+    → 0 < valueAt (c .before .before .before .before .before .before .before .before .before .args .network .now)
+    (c .before .before .before .before .before .before .before .before .before .args .table .now)
+    (c .before .before .loop .riders) (c .before .before .loop .v)
 some c = omega (arith, c .before .value .ensures)
 
 next-move-requires : tie.Need-next-move-requires Inv-loop μ-loop
-next-move-requires c κs = (stands (c .before .before .before .before .before .before .before .before .before .pre) (c .before .before .loop .inv), some c)
+next-move-requires c κs =
+    let entry = c .before .before .before .before .before .before .before .before .before in
+    (stands (entry .pre .0) (c .before .before .loop .inv), some c, entry .pre .1)
 
 cast-steps : tie.Need-cast-steps Inv-loop μ-loop
-cast-steps c = omega (arith, step-small (stands (c .before .before .before .before .before .before .before .before .before .before .before .pre) (c .before .before .before .before .loop .inv)) (c .before .next-move .ensures .tight))
+cast-steps c =
+    let entry = c .before .before .before .before .before .before .before .before .before .before .before in
+    omega (arith, step-small (stands (entry .pre .0) (c .before .before .before .before .loop .inv)) (c .before .next-move .ensures .tight))
 
 mul-steps : tie.Need-mul-steps Inv-loop μ-loop
-mul-steps c = omega (arith, room-left (c .before .before .before .before .before .before .before .before .before .before .before .pre) (c .before .before .before .before .loop .inv) (some (c .before .before)), c .before .before .before .before .loop .inv .size, c .before .before .before .before .before .before .before .before .before .before .before .good)
+mul-steps c =
+    let entry = c .before .before .before .before .before .before .before .before .before .before .before in
+    omega (
+      arith,
+      room-left (entry .pre .0) (c .before .before .before .before .loop .inv) (some (c .before .before)),
+      c .before
+          .before .before .before .loop .inv .kept .size,
+      entry .good,
+    )
 
 slice-write-steps : tie.Need-slice-write-steps Inv-loop μ-loop
-slice-write-steps c = room-left (c .before .before .before .before .before .before .before .before .before .before .before .pre) (c .before .before .before .before .loop .inv) (some (c .before .before))
+slice-write-steps c =
+    let entry = c .before .before .before .before .before .before .before .before .before .before .before in
+    room-left (entry .pre .0) (c .before .before .before .before .loop .inv) (some (c .before .before))
 
 add-i : tie.Need-add-i Inv-loop μ-loop
-add-i c = omega (arith, room-left (c .before .before .before .before .before .before .before .before .before .before .before .pre) (c .before .before .before .before .loop .inv) (some (c .before .before)), c .before .before .before .before .loop .inv .size, c .before .before .before .before .before .before .before .before .before .before .before .good)
+add-i c =
+    let entry = c .before .before .before .before .before .before .before .before .before .before .before in
+    omega (
+      arith,
+      room-left (entry .pre .0) (c .before .before .before .before .loop .inv) (some (c .before .before)),
+      c .before
+          .before .before .before .loop .inv .kept .size,
+      entry .good,
+    )
 
 loop-less : tie.Need-loop-less Inv-loop μ-loop
 loop-less c = omega (arith, c .before .next-move .ensures .tight .tight)
 
 loop-again : tie.Need-loop-again Inv-loop μ-loop
-loop-again c = writing-more (c .before .before .before .before .before .before .before .before .before .before .before .pre) (c .before .before .before .before .loop .inv) (some (c .before .before)) (c .before .next-move .ensures)
+loop-again c =
+    let entry = c .before .before .before .before .before .before .before .before .before .before .before in
+    writing-more (entry .pre .0) (c .before .before .before .before .loop .inv) (some (c .before .before)) (c .before .next-move .ensures)
 
 same-length : tie.Need-same-length Inv-loop μ-loop
-same-length c = c .before .before .loop .inv .size
+same-length c = c .before .before .loop .inv .kept .size
 
 returns : tie.Need-returns Inv-loop μ-loop
-returns c = writing-done (c .before .before .before .before .before .before .before .before .before .pre) (c .before .before .loop .inv) (sym (c .before .value .ensures) ∙ c .if1 .left)
+returns c =
+    let entry = c .before .before .before .before .before .before .before .before .before in
+    writing-done (entry .pre .0) (c .before .before .loop .inv) (sym (c .before .value .ensures) ∙ c .if1 .left)
 
 pub read-plan-spec : {M : Type 1} → statement M
 read-plan-spec =
