@@ -1,7 +1,6 @@
 -- The steps of a finish, one by one.
 use Prim.Native.Nat.{ℕ, _+_, _-_, _*_, _≤_, _<_}
 use native.Mathlib.Omega.{arith}
-use native.Mathlib.Nat.{mul-le-mul-right}
 use mathlib.Core.Path.{_≡_, _∙_}
 use mathlib.Core.List.{List, _∷_}
 use lib.ListN.{length}
@@ -11,19 +10,18 @@ use Rattle.rules.specs.Network.{nodeCount, linkStart, to}
 use Rattle.rules.specs.Plans.{Finish, without, meet, drive}
 use Rattle.rules.specs.Program.{nodeAfter}
 use Rattle.rules.specs.Rooms.{distancePlaces}
+use Rattle.rules.proofs.RoomLaws.{place-within}
 use Rattle.finish.proofs.Sets.{has-below, without-less}
 use Rattle.lines.specs.Steps.{Takes, Rides}
 
 module _ {network : List ℕ} {v step : ℕ} (takes : Takes network v step) where
   -- the link that is driven lies within the record
-  pub link-within : firstDrive ≤ step → linkStart (step - firstDrive) + 8 ≤ length network
-  link-within high = omega (arith, takes .sound .whole, takes .drives high)
+  pub drive-within : firstDrive ≤ step → linkStart (step - firstDrive) + 8 ≤ length network
+  drive-within high = omega (arith, takes .sound .whole, takes .drives high)
 
   -- the walking distance lies within the room
-  pub place-within : {n : ℕ} → step < firstDrive → n ≡ nodeCount network → step * n + v < distancePlaces mostNodes mostRiders
-  place-within {n} low e =
-      let rows : step ≤ mostRiders - 1 = omega (arith, takes .meets low) in
-      omega (arith, takes .node, takes .sound .nodes, mul-le-mul-right n rows)
+  pub distance-within : {n : ℕ} → step < firstDrive → n ≡ nodeCount network → step * n + v < distancePlaces mostNodes mostRiders
+  distance-within {n} low e = omega (arith, takes .sound .nodes, place-within {n = n} {v = v} (takes .meets low) (omega (arith, takes .node)))
 
 module _ {network : List ℕ} {v step : ℕ} {steps : List ℕ} (rides : Rides network v (step ∷ steps)) where
   pub rides-takes : Takes network v step

@@ -23,8 +23,8 @@ module _ {more : ℕ} {l : Line} (room : Room more l) where
       }
 
   -- what was put in front leaves so much room
-  pub room-left : (less : ℕ) {r : Line} {front : List ℕ} → Added l front r → less + length front ≤ more → Room less r
-  room-left less so enough =
+  pub room-behind : (less : ℕ) {r : Line} {front : List ℕ} → Added l front r → less + length front ≤ more → Room less r
+  room-behind less so enough =
       record { size = so .reads .size; free = omega (arith, so .start); within = omega (arith, so .start); clear = so .reads .clear }
 
 front-zeros : (k : ℕ) → take {A = ℕ} k (replicate (suc k) 0) ≡ replicate k 0
@@ -72,19 +72,19 @@ drop-before xs i some within =
     rw next at (drop-cons xs (i - 1) 0 (omega arith))
 
 -- The line ends in the numbers from place i on, and has room for as many more as there are.
-pub record Ends (numbers : List ℕ) (i : ℕ) (l : Line) : Type 0 where
+pub record Numbered (numbers : List ℕ) (i : ℕ) (l : Line) : Type 0 where
   pub within : i ≤ length numbers
   pub free : longestLine ≤ l .start + longestField * (length numbers - i) + 1
   pub reads : Reads l (fields (drop i numbers))
 
 module _ {numbers : List ℕ} {l : Line} where
-  pub ends-none : Reads l (10 ∷ []) → Ends numbers (length numbers) l
+  pub numbered-none : Reads l (10 ∷ []) → Numbered numbers (length numbers) l
   unfolding fields
-  ends-none so = record { within = omega arith; free = omega (arith, so .start); reads = rw (drop-length numbers) so }
+  numbered-none so = record { within = omega arith; free = omega (arith, so .start); reads = rw (drop-length numbers) so }
 
-  module _ {i : ℕ} (so : Ends numbers i l) where
-    pub ends-room : (more : ℕ) → more + longestField * (length numbers - i) < longestLine → Room more l
-    ends-room more enough =
+  module _ {i : ℕ} (so : Numbered numbers i l) where
+    pub numbered-room : (more : ℕ) → more + longestField * (length numbers - i) < longestLine → Room more l
+    numbered-room more enough =
         record {
           size = so .reads .size;
           free = omega (arith, so .free);
@@ -92,9 +92,9 @@ module _ {numbers : List ℕ} {l : Line} where
           clear = so .reads .clear;
         }
 
-    pub ends-more : {r : Line} → 0 < i → Added l (32 ∷ decimal (getD numbers (i - 1) 0)) r → Ends numbers (i - 1) r
+    pub numbered-more : {r : Line} → 0 < i → Added l (32 ∷ decimal (getD numbers (i - 1) 0)) r → Numbered numbers (i - 1) r
     unfolding fields
-    ends-more {r} some more =
+    numbered-more {r} some more =
         record {
           within = omega (arith, so .within);
           free = omega (arith, more .start, decimal-length (getD numbers (i - 1) 0) .1);

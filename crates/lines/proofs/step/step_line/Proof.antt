@@ -5,14 +5,14 @@ use borrow.Author.Needs.{needs}
 use borrow.Author.Tests.{lt-ltb, le-ltb}
 use Rattle.rules.specs.Limits.{mostNodes, mostRiders}
 use Rattle.rules.specs.Rooms.{distancePlaces}
-use Rattle.lines.proofs.StepLaws.{place-within, link-within}
+use Rattle.lines.proofs.StepLaws.{distance-within, drive-within}
 use Rattle.lines.proofs.step.step_line.Statement.{statement}
 use Rattle.lines.proofs.step.step_line.Tie as tie
 
 place : (c : tie.After-node-count)
     → c .before .before .before .before .args .step * c .node-count .result + c .before .before .before .before .args .node
     < distancePlaces mostNodes mostRiders
-place c = place-within (c .before .before .before .before .pre .0) (search needs) (c .node-count .ensures .value)
+place c = distance-within (c .before .before .before .before .pre .0) (search needs) (c .node-count .ensures .value)
 
 cast-meet-line : tie.Need-cast-meet-line
 cast-meet-line c =
@@ -44,7 +44,7 @@ step-line-spec =
     cast-meet-line
     (λ c κs. search needs)
     returns
-    (λ c κs. link-within (c .before .before .before .pre .0) (search needs))
-    (λ c κs. link-within (c .before .before .before .before .pre .0) (search needs))
+    (λ c κs. drive-within (c .before .before .before .pre .0) (search needs))
+    (λ c κs. drive-within (c .before .before .before .before .pre .0) (search needs))
     (λ c κs. search needs)
     returns-2)

@@ -6,7 +6,7 @@ use lib.ListN.{length, length-append}
 use borrow.Author.Needs.{needs}
 use borrow.Fn.PlainCycle.{Measures, is, falls, and}
 use Rattle.lines.proofs.DecimalLaws.{decimal-small, decimal-tenth, decimal-length}
-use Rattle.lines.proofs.TextLaws.{added-both, room-left}
+use Rattle.lines.proofs.TextLaws.{added-both, room-behind}
 use Rattle.lines.proofs.text.number.Reads as number
 use Rattle.lines.proofs.text.number.Kinds as number-kinds
 use Rattle.lines.proofs.text.+number.Lts-number as number-lts
@@ -37,7 +37,7 @@ pub +number-spec : {M : Type 1} → statement M
     (λ c κs.
     let start = c .before .before .before in
     let tenth = decimal-tenth (start .args .x) (omega arith) (search needs) in
-    (omega arith, room-left (start .pre .1) _ (c .put2 .ensures) (omega (arith, simp length-append at (ap length tenth)))))
+    (omega arith, room-behind (start .pre .1) _ (c .put2 .ensures) (omega (arith, simp length-append at (ap length tenth)))))
     (λ c.
     let start = c .before .before .before .before in
     rw (decimal-tenth (start .args .x) (omega arith) (search needs), ← c .before .before .digit2 .ensures)

@@ -6,7 +6,7 @@ use lib.ListN.{length, drop, length-drop}
 use lib.Seq.{drop-length}
 use borrow.Author.Needs.{needs}
 use Rattle.lines.specs.Text.{Added}
-use Rattle.lines.proofs.TextLaws.{added-none, room-left, added-both, drop-before}
+use Rattle.lines.proofs.TextLaws.{added-none, room-behind, added-both, drop-before}
 use Rattle.lines.proofs.text.spelt.Statement.{statement}
 use Rattle.lines.proofs.text.spelt.Tie as tie
 
@@ -23,7 +23,7 @@ put-requires : tie.Need-put-requires Inv-loop μ-loop
 put-requires c κs =
     let done = c .before .before .loop in
     let start = c .before .before .before .before in
-    room-left (start .pre) 1 (done .inv .1) (omega (arith, length-drop (done .i) (start .args .word .now)))
+    room-behind (start .pre) 1 (done .inv .1) (omega (arith, length-drop (done .i) (start .args .word .now)))
 
 loop-again : tie.Need-loop-again Inv-loop μ-loop
 loop-again c =
