@@ -1,4 +1,6 @@
 // The network record: its reader, and a link's part of it.
+use crate::common::checked;
+use crate::common::either;
 use crate::common::opening_verdict;
 use crate::common::outside;
 use crate::inner;
@@ -6,6 +8,7 @@ use rules::MOST_LINKS;
 use rules::MOST_NODES;
 use rules::NetworkRead;
 use rules::Verdict;
+use rules::inner::link_start;
 use rules::refused;
 ghost use Prim.Native.Nat.{_+_, _≤_};
 ghost use mathlib.Core.Path.{_≡_};
@@ -65,17 +68,11 @@ fn sizes_verdict(network: &[u8]) -> Verdict
     requires { ⌜ 9 ≤ length (now network) ⌝ }
     ensures { λ r. ⌜ r ≡ firstOf (sizeChecks (now (network .entry))) ⌝ }
 {
-    if outside(1, MOST_NODES, inner::node_count(network)) {
-        return refused(4, 0);
-    }
+    let n = inner::node_count(network);
     let m = inner::link_count(network);
-    if outside(0, MOST_LINKS, m) {
-        return refused(4, 0);
-    }
-    if network.len() != 9 + 8 * m {
-        return refused(5, 0);
-    }
-    Verdict::Accepted
+    let sizes = either(outside(1, MOST_NODES, n), outside(0, MOST_LINKS, m));
+    let parts = network.len() != link_start(m);
+    checked(sizes, 4, 0, checked(parts, 5, 0, Verdict::Accepted))
 }
 
 // Refusal 6 at the lowest link that names a node of n or more.
