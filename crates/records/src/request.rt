@@ -52,10 +52,8 @@ fn no_request() -> Request
 
 // The value of a request that is as long as its rider count asks.
 fn request_value(request: &[u8]) -> Request
-    requires {
-        ⌜ (riderCount (now request) ≤ mostRiders)
-        × (riderStart (riderCount (now request)) ≤ length (now request)) ⌝
-    }
+    requires { ⌜ (riderCount (now request) ≤ mostRiders)
+        × (riderStart (riderCount (now request)) ≤ length (now request)) ⌝ }
     ensures { λ r. ⌜ r ≡ requestValue (now (request .entry)) ⌝ }
 {
     let count = inner::rider_count(request);

@@ -15,7 +15,7 @@ returns : tie.Need-returns
 returns c =
     let start = c .before .before .before .before .args in
     let absent : hasLink (start .network .now) (start .k) ≡ false =
-        rw (c .before .before .read-network .ensures) at (le-ltb _ _ (c .before .if1 .taken)) in
+    rw (c .before .before .read-network .ensures) at (le-ltb _ _ (c .before .if1 .taken)) in
     rw absent (part-of _ 0 0 _)
 
 fits : (c : tie.Else1) → linkStart (c .before .before .before .args .k) + 8 ≤ length (c .before .before .before .args .network .now)
@@ -25,7 +25,7 @@ returns-2 : tie.Need-returns-2
 returns-2 c =
     let start = c .before .before .before .before .before .args in
     let known : hasLink (start .network .now) (start .k) ≡ true =
-        rw (c .before .before .before .read-network .ensures) at (lt-ltb _ _ (c .before .before .if1 .left)) in
+    rw (c .before .before .before .read-network .ensures) at (lt-ltb _ _ (c .before .before .if1 .left)) in
     rw (known, ← c .before .link-start .ensures) (part-of _ _ 8 _)
 
 pub link-spec : {M : Type 1} → statement M

@@ -21,8 +21,7 @@ loop-holds c = (omega arith, refl, refl)
 
 loop-again : tie.Need-loop-again Inv-loop μ-loop
 loop-again c =
-    let at = c .before .before .before .loop in
-    (
+    let at = c .before .before .before .loop in (
       omega arith,
       rw (c .before .rider-node .ensures .value, at .inv .1) (place-more _ (at .j) (omega arith)),
       rw (c .rider-weight .ensures .value, at .inv .2) (place-more _ (at .j) (omega arith)),
