@@ -1,9 +1,10 @@
 -- A number's digits, from the last one on.
 use Prim.Native.Nat.{ℕ, zero, suc, _+_, _/_, _%_, _^_, _≤_, _<_}
 use native.Mathlib.Omega.{arith}
+use native.Mathlib.Decide.{decLt}
 use native.Mathlib.Nat.{pow-succ'}
 use mathlib.Core.Path.{_≡_, sym, _∙_, ap}
-use mathlib.Core.Bool.{Bool, true, false, cond}
+use mathlib.Core.Bool.{cond}
 use mathlib.Core.List.{List, [], _∷_, _++_}
 use lib.ListN.{length, length-append}
 use lib.Dec.{ltb}
@@ -29,9 +30,9 @@ pub decimal-small : (x : ℕ) → x < 10 → decimal x ≡ (48 + x) ∷ []
 unfolding digits
 decimal-small x small = simp (lt-ltb x 10 small)
 
-pub decimal-step : (x : ℕ) → x < 18446744073709551616 → 10 ≤ x → decimal x ≡ decimal (x / 10) ++ (48 + x % 10) ∷ []
+pub decimal-tenth : (x : ℕ) → x < 2 ^ 64 → 10 ≤ x → decimal x ≡ decimal (x / 10) ++ (48 + x % 10) ∷ []
 unfolding digits
-decimal-step x fits large =
+decimal-tenth x fits large =
     step ∙ ap (λ (front : List ℕ). front ++ (48 + x % 10) ∷ []) (sym (digits-more 18 (x / 10) (omega (arith, fits))))
   where
     step : digits 19 x ≡ digits 18 (x / 10) ++ (48 + x % 10) ∷ []
@@ -41,15 +42,12 @@ decimal-step x fits large =
 digits-length : (places x : ℕ) → (1 ≤ length (digits places x)) × (length (digits places x) ≤ suc places)
 unfolding digits
 digits-length zero x = (omega arith, omega arith)
-digits-length (suc places) x = go (ltb x 10) (digits-length places (x / 10))
-  where
-    go : (b : Bool)
-        → (1 ≤ length (digits places (x / 10))) × (length (digits places (x / 10)) ≤ suc places)
-        → (1 ≤ length (cond b ((48 + x) ∷ []) (digits places (x / 10) ++ (48 + x % 10) ∷ []))) × (length (cond b ((48 + x) ∷ []) (digits places (x / 10) ++ (48 + x % 10) ∷ [])) ≤ suc (suc places))
-    go true before = (omega arith, omega arith)
-    go false before =
-        let more = length-append (digits places (x / 10)) ((48 + x % 10) ∷ []) in
-        (omega (arith, more), omega (arith, before .1, more))
+digits-length (suc places) x =
+    let (some, few) = digits-length places (x / 10) in
+    elim (decLt x 10) [
+      | yes low ↦ simp (lt-ltb x 10 low) (omega arith, omega arith)
+      | no high ↦ simp (le-ltb x 10 (omega arith), length-append) (omega arith, omega arith)
+    ]
 
 pub decimal-length : (x : ℕ) → (1 ≤ length (decimal x)) × (length (decimal x) ≤ 20)
 decimal-length x = digits-length 19 x

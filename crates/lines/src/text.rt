@@ -1,29 +1,49 @@
 // A text that grows at its front: its bytes stand at the end of their room.
-ghost use Prim.Native.Nat.{_+_, _<_};
+ghost use Prim.Native.Nat.{_+_, _*_, _<_};
 ghost use mathlib.Core.Path.{_≡_};
 ghost use mathlib.Core.List.{[], _∷_};
 ghost use lib.ListN.{length};
-ghost use Rattle.rules.specs.Program.{decimal};
-ghost use Rattle.lines.specs.Text.{Room, Added, Reads};
+ghost use Rattle.rules.specs.Program.{decimal, line};
+ghost use Rattle.lines.specs.Text.{longestLine, longestField, Room, Added, Reads};
+
+// How many bytes a line may have.
+pub const LONGEST_LINE: usize = 96;
 
 // The text is the bytes from the start on.
 pub struct Line {
-    pub bytes: [u8; 96],
+    pub bytes: [u8; LONGEST_LINE],
     pub start: usize,
 }
 
+// The line of a word and its numbers, made from the last number on.
+pub fn line_of(word: &[u8], numbers: &[u64]) -> Line
+    requires { ⌜ length (now word) + longestField * length (now numbers) < longestLine ⌝ }
+    ensures { λ r. ⌜ Reads r (line (now (word .entry)) (now (numbers .entry))) ⌝ }
+{
+    let mut i = numbers.len();
+    let mut text = line_feed();
+    while 0 < i {
+        i -= 1;
+        text = field(text, numbers[i]);
+    }
+    spelt(text, word)
+}
+
 // The text that only ends a line.
-pub fn line_feed() -> Line
+fn line_feed() -> Line
     ensures { λ r. ⌜ Reads r (10 ∷ []) ⌝ }
 {
-    let mut bytes = [0u8; 96];
-    bytes[95] = 10;
-    Line { bytes, start: 95 }
+    let mut bytes = [0u8; LONGEST_LINE];
+    bytes[LONGEST_LINE - 1] = 10;
+    Line {
+        bytes,
+        start: LONGEST_LINE - 1,
+    }
 }
 
 // A space and a number, in front.
-pub fn field(line: Line, x: u64) -> Line
-    requires { ⌜ Room 21 line ⌝ }
+fn field(line: Line, x: u64) -> Line
+    requires { ⌜ Room longestField line ⌝ }
     ensures { λ r. ⌜ Added line (32 ∷ decimal x) r ⌝ }
 {
     put(number(line, x), 32)
@@ -31,20 +51,17 @@ pub fn field(line: Line, x: u64) -> Line
 
 // A number's digits, in front, from the last one on.
 fn number(line: Line, x: u64) -> Line
-    requires { ⌜ Room 20 line ⌝ }
+    requires { ⌜ Room (length (decimal x)) line ⌝ }
     ensures { λ r. ⌜ Added line (decimal x) r ⌝ }
 {
-    let mut rest = x;
-    let mut text = line;
-    while 10 <= rest {
-        text = put(text, digit(rest % 10));
-        rest = rest / 10;
+    if x < 10 {
+        return put(line, digit(x));
     }
-    put(text, digit(rest))
+    number(put(line, digit(x % 10)), x / 10)
 }
 
 // A word, in front, from its last byte on.
-pub fn word(line: Line, word: &[u8]) -> Line
+fn spelt(line: Line, word: &[u8]) -> Line
     requires { ⌜ Room (length (now word)) line ⌝ }
     ensures { λ r. ⌜ Added line (now (word .entry)) r ⌝ }
 {

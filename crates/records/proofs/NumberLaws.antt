@@ -1,11 +1,10 @@
 -- Big-endian numbers, byte by byte.
-use Prim.Native.Nat.{ℕ, zero, suc, _+_, _*_, _^_, _≤_, _<_}
+use Prim.Native.Nat.{ℕ, _+_, _*_, _^_, _<_}
 use native.Mathlib.Omega.{arith}
 use native.Mathlib.Nat.{pow-suc}
 use native.Mathlib.Numerals.{add-one}
 use mathlib.Core.Path.{_≡_, refl}
 use mathlib.Core.List.{List}
-use lib.Dec.{lit≤}
 use Rattle.rules.specs.Numbers.{byte, number}
 
 -- x is the number of the first k bytes at i, as small as k bytes are
@@ -26,12 +25,3 @@ module _ (s : List ℕ) (i : ℕ) where
         value = rw (add-one, so .value, e);
         below = rw (add-one, pow-suc) (omega arith);
       }
-
--- up to four bytes fit 32 bits
-pub few-bytes : (k : ℕ) → k ≤ 4 → 256 ^ k ≤ 4294967296
-few-bytes zero h = lit≤ tt
-few-bytes (suc zero) h = lit≤ tt
-few-bytes (suc (suc zero)) h = lit≤ tt
-few-bytes (suc (suc (suc zero))) h = lit≤ tt
-few-bytes (suc (suc (suc (suc zero)))) h = lit≤ tt
-few-bytes (suc (suc (suc (suc (suc k))))) h = absurd (omega arith)

@@ -24,7 +24,8 @@ network-settled s a b p q = p ∙ sym q
 pub request-settled : (network s : List ℕ) (a b : RequestRead) → a ≡ requestOf network s → b ≡ requestOf network s → a ≡ b
 request-settled network s a b p q = p ∙ sym q
 
-pub link-settled : (network : RefT (List ℕ)) (k : ℕ) (a b : RefT (List ℕ)) → LinkPart network k a → LinkPart network k b → (a .ptr ≡ b .ptr) × (a .now ≡ b .now)
+pub link-settled : (network : RefT (List ℕ)) (k : ℕ) (a b : RefT (List ℕ)) → LinkPart network k a → LinkPart network k b
+    → (a .ptr ≡ b .ptr) × (a .now ≡ b .now)
 link-settled network k a b p q = part-unique p q
 
 -- ---- case A is read
@@ -44,7 +45,8 @@ readA stray =
     }
 
 pub request-read : requestOf town caseA ≡ readA 0
-unfolding networkChecks openingChecks sizeChecks number firstOf each requestOf requestVerdict requestChecks countChecks nodeChecks weightChecks requestValue sevenPlaces
+unfolding networkChecks openingChecks sizeChecks number firstOf each
+    requestOf requestVerdict requestChecks countChecks nodeChecks weightChecks requestValue sevenPlaces
 request-read = refl
 
 refuses-same : {number other place elsewhere : ℕ} → refuses number place ≡ refuses other elsewhere → (number ≡ other) × (place ≡ elsewhere)
@@ -73,7 +75,8 @@ abbrev pub badRequest : List ℕ
 badRequest = request 0 3 101 (rider 9 1)
 
 bad-request : requestOf town badRequest ≡ record { verdict = Refused (refuse 16 2); request = noRequest }
-unfolding networkChecks openingChecks sizeChecks number firstOf each requestOf requestVerdict requestChecks countChecks nodeChecks weightChecks noRequest sevenPlaces
+unfolding networkChecks openingChecks sizeChecks number firstOf each
+    requestOf requestVerdict requestChecks countChecks nodeChecks weightChecks noRequest sevenPlaces
 bad-request = refl
 
 pub not-the-weight-first : record { verdict = Refused (refuse 17 0); request = noRequest } ≡ requestOf town badRequest → ⊥

@@ -1,4 +1,6 @@
 // Numbers of a record that is known to be long enough. Only the other crates call these: hosts call the readers.
+use rules::inner::link_start;
+use rules::inner::rider_start;
 ghost use Prim.Native.Nat.{_+_, _<_, _≤_};
 ghost use mathlib.Core.Path.{_≡_};
 ghost use lib.ListN.{length};
@@ -53,12 +55,20 @@ pub fn link_count(network: &[u8]) -> usize
     two(network, 7)
 }
 
+// The number of two bytes in link k, behind so many of its bytes.
+fn link_number(network: &[u8], k: usize, skip: usize) -> usize
+    requires { ⌜ (skip ≤ 6) × (linkStart k + 8 ≤ length (now network)) ⌝ }
+    ensures { λ r. ⌜ Is (Numbers.two (now (network .entry)) (linkStart k + skip)) 65536 r ⌝ }
+{
+    two(network, link_start(k) + skip)
+}
+
 // The node that link k starts at.
 pub fn from(network: &[u8], k: usize) -> usize
     requires { ⌜ linkStart k + 8 ≤ length (now network) ⌝ }
     ensures { λ r. ⌜ Is (from (now (network .entry)) k) 65536 r ⌝ }
 {
-    two(network, 9 + 8 * k)
+    link_number(network, k, 0)
 }
 
 // The node that link k ends at.
@@ -66,7 +76,7 @@ pub fn to(network: &[u8], k: usize) -> usize
     requires { ⌜ linkStart k + 8 ≤ length (now network) ⌝ }
     ensures { λ r. ⌜ Is (to (now (network .entry)) k) 65536 r ⌝ }
 {
-    two(network, 9 + 8 * k + 2)
+    link_number(network, k, 2)
 }
 
 // What driving link k costs, or 65,535 where it is closed to the bus.
@@ -74,7 +84,7 @@ pub fn drive(network: &[u8], k: usize) -> u64
     requires { ⌜ linkStart k + 8 ≤ length (now network) ⌝ }
     ensures { λ r. ⌜ Is (drive (now (network .entry)) k) 65536 r ⌝ }
 {
-    two(network, 9 + 8 * k + 4) as u64
+    link_number(network, k, 4) as u64
 }
 
 // What walking link k costs, or 65,535 where it is closed to walkers.
@@ -82,7 +92,7 @@ pub fn walk(network: &[u8], k: usize) -> u32
     requires { ⌜ linkStart k + 8 ≤ length (now network) ⌝ }
     ensures { λ r. ⌜ Is (walk (now (network .entry)) k) 65536 r ⌝ }
 {
-    two(network, 9 + 8 * k + 6) as u32
+    link_number(network, k, 6) as u32
 }
 
 // The request's source.
@@ -122,7 +132,7 @@ pub fn rider_node(request: &[u8], j: usize) -> usize
     requires { ⌜ riderStart j + 3 ≤ length (now request) ⌝ }
     ensures { λ r. ⌜ Is (riderNode (now (request .entry)) j) 65536 r ⌝ }
 {
-    two(request, 9 + 3 * j)
+    two(request, rider_start(j))
 }
 
 // The weight of rider j.
@@ -130,5 +140,5 @@ pub fn rider_weight(request: &[u8], j: usize) -> usize
     requires { ⌜ riderStart j + 3 ≤ length (now request) ⌝ }
     ensures { λ r. ⌜ Is (riderWeight (now (request .entry)) j) 256 r ⌝ }
 {
-    byte(request, 9 + 3 * j + 2)
+    byte(request, rider_start(j) + 2)
 }

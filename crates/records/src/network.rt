@@ -1,4 +1,6 @@
 // The network record: its reader, and a link's part of it.
+use crate::common::checked;
+use crate::common::either;
 use crate::common::opening_verdict;
 use crate::common::outside;
 use crate::inner;
@@ -6,12 +8,12 @@ use rules::MOST_LINKS;
 use rules::MOST_NODES;
 use rules::NetworkRead;
 use rules::Verdict;
-use rules::refused;
-ghost use Prim.Native.Nat.{_+_, _≤_};
+use rules::inner::link_start;
+ghost use Prim.Native.Nat.{_≤_};
 ghost use mathlib.Core.Path.{_≡_};
 ghost use lib.ListN.{length};
 ghost use Rattle.rules.specs.Checks.{firstOf, each};
-ghost use Rattle.rules.specs.Network.{nodeCount, linkCount, linkStart, linkBeyond, sizeChecks, linkChecks, networkVerdict, networkOf, LinkPart};
+ghost use Rattle.rules.specs.Network.{linkCount, linkStart, sizeChecks, linkChecks, networkVerdict, networkOf, LinkPart};
 
 // Reads a network record: n and m, or its refusal with both 0 beside it.
 pub fn read_network(network: &[u8]) -> NetworkRead
@@ -40,7 +42,7 @@ pub fn link(network: &[u8], k: usize) -> &[u8]
     if m <= k {
         return &network[0..0];
     }
-    let start = 9 + 8 * k;
+    let start = link_start(k);
     let end = start + 8;
     &network[start..end]
 }
@@ -65,43 +67,25 @@ fn sizes_verdict(network: &[u8]) -> Verdict
     requires { ⌜ 9 ≤ length (now network) ⌝ }
     ensures { λ r. ⌜ r ≡ firstOf (sizeChecks (now (network .entry))) ⌝ }
 {
-    if outside(1, MOST_NODES, inner::node_count(network)) {
-        return refused(4, 0);
-    }
+    let n = inner::node_count(network);
     let m = inner::link_count(network);
-    if outside(0, MOST_LINKS, m) {
-        return refused(4, 0);
-    }
-    if network.len() != 9 + 8 * m {
-        return refused(5, 0);
-    }
-    Verdict::Accepted
+    let sizes = either(outside(1, MOST_NODES, n), outside(0, MOST_LINKS, m));
+    let parts = network.len() != link_start(m);
+    checked(sizes, 4, 0, checked(parts, 5, 0, Verdict::Accepted))
 }
 
-// Refusal 6 at the lowest link that names a node of n or more.
+// Refusal 6 at the lowest link that names a node of n or more, found from the last link on.
 fn links_verdict(network: &[u8]) -> Verdict
     requires { ⌜ linkStart (linkCount (now network)) ≤ length (now network) ⌝ }
     ensures { λ r. ⌜ r ≡ firstOf (each (linkChecks (now (network .entry))) (linkCount (now (network .entry))) 0) ⌝ }
 {
     let n = inner::node_count(network);
-    let m = inner::link_count(network);
-    let mut k = 0;
-    while k < m {
-        if link_beyond(network, n, k) {
-            return refused(6, k);
-        }
-        k += 1;
+    let mut k = inner::link_count(network);
+    let mut verdict = Verdict::Accepted;
+    while 0 < k {
+        k -= 1;
+        let beyond = either(n <= inner::from(network, k), n <= inner::to(network, k));
+        verdict = checked(beyond, 6, k, verdict);
     }
-    Verdict::Accepted
-}
-
-// Whether link k names a node of n or more.
-fn link_beyond(network: &[u8], n: usize, k: usize) -> bool
-    requires { ⌜ (n ≡ nodeCount (now network)) × (linkStart k + 8 ≤ length (now network)) ⌝ }
-    ensures { λ r. ⌜ r ≡ linkBeyond (now (network .entry)) k ⌝ }
-{
-    if n <= inner::from(network, k) {
-        return true;
-    }
-    n <= inner::to(network, k)
+    verdict
 }

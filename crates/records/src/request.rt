@@ -1,4 +1,5 @@
 // The request record: its reader.
+use crate::common::checked;
 use crate::common::opening_verdict;
 use crate::common::outside;
 use crate::inner;
@@ -8,12 +9,14 @@ use rules::MOST_WEIGHT;
 use rules::Request;
 use rules::RequestRead;
 use rules::Verdict;
-use rules::refused;
+use rules::inner::rider_start;
 ghost use Prim.Native.Nat.{_≤_};
 ghost use mathlib.Core.Path.{_≡_};
 ghost use lib.ListN.{length};
-ghost use Rattle.rules.specs.Checks.{firstOf, each};
-ghost use Rattle.rules.specs.Request.{riderCount, riderStart, riderNode, riderWeight, countChecks, nodeChecks, riderNodeChecks, weightChecks, riderWeightChecks, requestChecks, requestVerdict, requestOf, requestValue, sevenPlaces, noRequest};
+ghost use Rattle.rules.specs.Checks.{firstOf};
+ghost use Rattle.rules.specs.Limits.{mostRiders};
+ghost use Rattle.rules.specs.Request.{riderCount, riderStart, countChecks, nodeChecks, weightChecks, requestChecks};
+ghost use Rattle.rules.specs.Request.{requestVerdict, requestOf, requestValue, noRequest};
 
 // Reads a request record for a network record, whose refusals come first: the request, or its refusal with every
 // field 0 beside it.
@@ -49,46 +52,27 @@ fn no_request() -> Request
 
 // The value of a request that is as long as its rider count asks.
 fn request_value(request: &[u8]) -> Request
-    requires { ⌜ (riderCount (now request) ≤ 7) × (riderStart (riderCount (now request)) ≤ length (now request)) ⌝ }
+    requires { ⌜ (riderCount (now request) ≤ mostRiders)
+        × (riderStart (riderCount (now request)) ≤ length (now request)) ⌝ }
     ensures { λ r. ⌜ r ≡ requestValue (now (request .entry)) ⌝ }
 {
     let count = inner::rider_count(request);
+    let mut nodes = [0usize; MOST_RIDERS];
+    let mut weights = [0u64; MOST_RIDERS];
+    let mut j = 0;
+    while j < count {
+        nodes[j] = inner::rider_node(request, j);
+        weights[j] = inner::rider_weight(request, j) as u64;
+        j += 1;
+    }
     Request {
         source: inner::request_source(request),
         target: inner::request_target(request),
         bus_weight: inner::bus_weight(request) as u64,
         rider_count: count,
-        nodes: rider_nodes(request, count),
-        weights: rider_weights(request, count),
+        nodes,
+        weights,
     }
-}
-
-// The riders' nodes, with 0 in the places behind them.
-fn rider_nodes(request: &[u8], count: usize) -> [usize; MOST_RIDERS]
-    requires { ⌜ (count ≤ 7) × (riderStart count ≤ length (now request)) ⌝ }
-    ensures { λ r. ⌜ r ≡ sevenPlaces (riderNode (now (request .entry))) count ⌝ }
-{
-    let mut nodes = [0usize; MOST_RIDERS];
-    let mut j = 0;
-    while j < count {
-        nodes[j] = inner::rider_node(request, j);
-        j += 1;
-    }
-    nodes
-}
-
-// The riders' weights, with 0 in the places behind them.
-fn rider_weights(request: &[u8], count: usize) -> [u64; MOST_RIDERS]
-    requires { ⌜ (count ≤ 7) × (riderStart count ≤ length (now request)) ⌝ }
-    ensures { λ r. ⌜ r ≡ sevenPlaces (riderWeight (now (request .entry))) count ⌝ }
-{
-    let mut weights = [0u64; MOST_RIDERS];
-    let mut j = 0;
-    while j < count {
-        weights[j] = inner::rider_weight(request, j) as u64;
-        j += 1;
-    }
-    weights
 }
 
 // Refusals 1 to 6 and 11 to 17.
@@ -115,10 +99,11 @@ fn own_verdict(request: &[u8], n: usize) -> Verdict
         return counted;
     };
     let nodes = nodes_verdict(request, n);
+    let weights = weights_verdict(request);
     let Verdict::Accepted = nodes else {
         return nodes;
     };
-    weights_verdict(request)
+    weights
 }
 
 // Refusals 14 and 15.
@@ -127,70 +112,39 @@ fn count_verdict(request: &[u8]) -> Verdict
     ensures { λ r. ⌜ r ≡ firstOf (countChecks (now (request .entry))) ⌝ }
 {
     let count = inner::rider_count(request);
-    if MOST_RIDERS < count {
-        return refused(14, 0);
-    }
-    if request.len() != 9 + 3 * count {
-        return refused(15, 0);
-    }
-    Verdict::Accepted
+    let many = MOST_RIDERS < count;
+    let parts = request.len() != rider_start(count);
+    checked(many, 14, 0, checked(parts, 15, 0, Verdict::Accepted))
 }
 
-// Refusal 16 at the lowest place that names a node of n or more.
+// Refusal 16 at the lowest place that names a node of n or more, found from the last rider on.
 fn nodes_verdict(request: &[u8], n: usize) -> Verdict
     requires { ⌜ riderStart (riderCount (now request)) ≤ length (now request) ⌝ }
     ensures { λ r. ⌜ r ≡ firstOf (nodeChecks n (now (request .entry))) ⌝ }
 {
-    let source = inner::request_source(request);
-    let target = inner::request_target(request);
-    if n <= source {
-        return refused(16, 0);
+    let mut j = inner::rider_count(request);
+    let mut verdict = Verdict::Accepted;
+    while 0 < j {
+        j -= 1;
+        verdict = checked(n <= inner::rider_node(request, j), 16, 2 + j, verdict);
     }
-    if n <= target {
-        return refused(16, 1);
-    }
-    rider_nodes_verdict(request, n)
+    let source = n <= inner::request_source(request);
+    let target = n <= inner::request_target(request);
+    checked(source, 16, 0, checked(target, 16, 1, verdict))
 }
 
-// Refusal 16 at the lowest rider whose node is n or more.
-fn rider_nodes_verdict(request: &[u8], n: usize) -> Verdict
-    requires { ⌜ riderStart (riderCount (now request)) ≤ length (now request) ⌝ }
-    ensures { λ r. ⌜ r ≡ firstOf (each (riderNodeChecks n (now (request .entry))) (riderCount (now (request .entry))) 0) ⌝ }
-{
-    let count = inner::rider_count(request);
-    let mut j = 0;
-    while j < count {
-        if n <= inner::rider_node(request, j) {
-            return refused(16, 2 + j);
-        }
-        j += 1;
-    }
-    Verdict::Accepted
-}
-
-// Refusal 17 at the lowest place with a weight outside 1 to 100.
+// Refusal 17 at the lowest place with a weight outside 1 to 100, found from the last rider on.
 fn weights_verdict(request: &[u8]) -> Verdict
     requires { ⌜ riderStart (riderCount (now request)) ≤ length (now request) ⌝ }
     ensures { λ r. ⌜ r ≡ firstOf (weightChecks (now (request .entry))) ⌝ }
 {
-    if outside(1, MOST_WEIGHT, inner::bus_weight(request)) {
-        return refused(17, 0);
+    let mut j = inner::rider_count(request);
+    let mut verdict = Verdict::Accepted;
+    while 0 < j {
+        j -= 1;
+        let weight = inner::rider_weight(request, j);
+        verdict = checked(outside(1, MOST_WEIGHT, weight), 17, 1 + j, verdict);
     }
-    rider_weights_verdict(request)
-}
-
-// Refusal 17 at the lowest rider whose weight is outside 1 to 100.
-fn rider_weights_verdict(request: &[u8]) -> Verdict
-    requires { ⌜ riderStart (riderCount (now request)) ≤ length (now request) ⌝ }
-    ensures { λ r. ⌜ r ≡ firstOf (each (riderWeightChecks (now (request .entry))) (riderCount (now (request .entry))) 0) ⌝ }
-{
-    let count = inner::rider_count(request);
-    let mut j = 0;
-    while j < count {
-        if outside(1, MOST_WEIGHT, inner::rider_weight(request, j)) {
-            return refused(17, 1 + j);
-        }
-        j += 1;
-    }
-    Verdict::Accepted
+    let bus = outside(1, MOST_WEIGHT, inner::bus_weight(request));
+    checked(bus, 17, 0, verdict)
 }

@@ -1,15 +1,18 @@
 use native.Mathlib.Omega.{arith}
 use Rattle.lines.proofs.DecimalLaws.{decimal-length}
-use Rattle.lines.proofs.TextLaws.{added-both, room-left}
+use Rattle.lines.proofs.TextLaws.{added-both, room-behind}
 use borrow.Author.Needs.{needs}
 use Rattle.lines.proofs.text.field.Statement.{statement}
 use Rattle.lines.proofs.text.field.Tie as tie
 
+number-requires : tie.Need-number-requires
+number-requires c κs = let few = decimal-length (c .args .x) .1 in search needs
+
 put-requires : tie.Need-put-requires
-put-requires c κs = room-left 1 (omega (arith, decimal-length (c .before .args .x) .1)) (c .before .pre) (c .number .ensures)
+put-requires c κs = room-behind (c .before .pre) 1 (c .number .ensures) (omega (arith, decimal-length (c .before .args .x) .1))
 
 returns : tie.Need-returns
 returns c = added-both (c .before .number .ensures) (c .put .ensures)
 
 pub field-spec : {M : Type 1} → statement M
-field-spec = tie.close (tie.spec (λ c κs. search needs) put-requires returns)
+field-spec = tie.close (tie.spec number-requires put-requires returns)

@@ -1,7 +1,9 @@
+-- The number of the first k bytes is read (`Read`); the measure is how many are left.
 use mathlib.Core.Path.{_≡_}
 use native.Mathlib.Omega.{arith}
-use Prim.Native.Nat.{_-_, _≤_}
-use Rattle.records.proofs.NumberLaws.{Read, read-none, read-more, few-bytes}
+use native.Mathlib.Nat.{pow-le-pow-right}
+use Prim.Native.Nat.{_-_, _^_, _≤_, _<_}
+use Rattle.records.proofs.NumberLaws.{Read, read-none, read-more}
 use Rattle.records.proofs.inner.number.Statement.{statement}
 use Rattle.records.proofs.inner.number.Tie as tie
 
@@ -14,11 +16,9 @@ abbrev μ-loop : tie.MeasureT-loop
 loop-holds : tie.Need-loop-holds Inv-loop μ-loop
 loop-holds c = (omega arith, read-none _ _)
 
-mul-x : tie.Need-mul-x Inv-loop μ-loop
-mul-x c = omega (arith, few-bytes (c .before .loop .k) (omega arith))
-
-add-x : tie.Need-add-x Inv-loop μ-loop
-add-x c = omega (arith, few-bytes (c .before .before .loop .k) (omega arith))
+-- up to four bytes fit
+small : (c : tie.In-loop Inv-loop μ-loop) → c .before .loop .x < 256 ^ 3
+small c = omega (arith, pow-le-pow-right {n = 256} (omega arith) {i = c .before .loop .k} {j = 3} (omega arith))
 
 loop-again : tie.Need-loop-again Inv-loop μ-loop
 loop-again c = (
@@ -38,10 +38,10 @@ number-spec =
     Inv-loop
     μ-loop
     loop-holds
-    mul-x
+    (λ c. omega (arith, small c))
     (λ c. omega arith)
     (λ c κs. omega arith)
-    add-x
+    (λ c. omega (arith, small (c .before)))
     (λ c. omega arith)
     (λ c. omega arith)
     loop-again

@@ -1,36 +1,32 @@
+-- A link below the m that was read lies within the record; any other gets the empty part.
+use Prim.Native.Nat.{_+_, _≤_}
 use native.Mathlib.Omega.{arith}
 use mathlib.Core.Path.{_≡_}
 use mathlib.Core.Bool.{true, false}
-use borrow.Author.Tests.{le-ltb, lt-ltb}
-use Rattle.rules.specs.Network.{hasLink}
-use Rattle.records.proofs.NetworkLaws.{link-fits, part-of}
+use lib.ListN.{length}
 use borrow.Author.Needs.{needs}
+use borrow.Author.Tests.{le-ltb, lt-ltb}
+use Rattle.rules.specs.Network.{hasLink, linkStart}
+use Rattle.records.proofs.NetworkLaws.{link-fits, part-of}
 use Rattle.records.proofs.network.link.Statement.{statement}
 use Rattle.records.proofs.network.link.Tie as tie
 
 returns : tie.Need-returns
 returns c =
-    let absent : hasLink (c .before .before .before .before .args .network .now) (c .before .before .before .before .args .k) ≡ false =
+    let start = c .before .before .before .before .args in
+    let absent : hasLink (start .network .now) (start .k) ≡ false =
     rw (c .before .before .read-network .ensures) at (le-ltb _ _ (c .before .if1 .taken)) in
     rw absent (part-of _ 0 0 _)
 
-mul-start : tie.Need-mul-start
-mul-start c = omega (arith, link-fits _ _ (rw (c .before .read-network .ensures) at (c .if1 .left)))
-
-add-start : tie.Need-add-start
-add-start c = omega (arith, link-fits _ _ (rw (c .before .read-network .ensures) at (c .if1 .left)))
-
-add-end : tie.Need-add-end
-add-end c = omega (arith, link-fits _ _ (rw (c .before .read-network .ensures) at (c .if1 .left)))
-
-part-result-end-2 : tie.Need-part-result-end-2
-part-result-end-2 c = omega (arith, link-fits _ _ (rw (c .before .read-network .ensures) at (c .if1 .left)))
+fits : (c : tie.Else1) → linkStart (c .before .before .before .args .k) + 8 ≤ length (c .before .before .before .args .network .now)
+fits c = link-fits _ _ (rw (c .before .read-network .ensures) at (c .if1 .left))
 
 returns-2 : tie.Need-returns-2
 returns-2 c =
-    let known : hasLink (c .before .before .before .before .args .network .now) (c .before .before .before .before .args .k) ≡ true =
-    rw (c .before .before .read-network .ensures) at (lt-ltb _ _ (c .before .if1 .left)) in
-    rw known (part-of _ _ 8 _)
+    let start = c .before .before .before .before .before .args in
+    let known : hasLink (start .network .now) (start .k) ≡ true =
+    rw (c .before .before .before .read-network .ensures) at (lt-ltb _ _ (c .before .before .if1 .left)) in
+    rw (known, ← c .before .link-start .ensures) (part-of _ _ 8 _)
 
 pub link-spec : {M : Type 1} → statement M
 link-spec =
@@ -41,10 +37,9 @@ link-spec =
     (λ c. search needs)
     (λ c. search needs)
     returns
-    mul-start
-    add-start
-    add-end
+    (λ c κs. omega (arith, fits c))
+    (λ c. omega (arith, fits (c .before)))
     (λ c. search needs)
     (λ c. search needs)
-    part-result-end-2
+    (λ c. omega (arith, fits (c .before)))
     returns-2)

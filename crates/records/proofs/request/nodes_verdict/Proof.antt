@@ -1,41 +1,47 @@
-use borrow.Author.Tests.{le-leb, lt-leb}
-use mathlib.Core.Path.{_∙_, sym}
-use Rattle.rules.specs.Request.{nodeChecks}
-use Rattle.rules.proofs.Order.{given, passed}
+-- The riders' nodes from rider j on are judged; the measure is j.
+use native.Mathlib.Omega.{arith}
 use borrow.Author.Needs.{needs}
+use Rattle.rules.specs.Checks.{firstOf}
+use Rattle.rules.specs.Request.{riderCount, riderNodeChecks, nodeChecks}
+use Rattle.records.proofs.CheckLaws.{Judged, judged-none, judged-more, judged-all}
 use Rattle.records.proofs.request.nodes_verdict.Statement.{statement}
 use Rattle.records.proofs.request.nodes_verdict.Tie as tie
 
-returns : tie.Need-returns
-unfolding nodeChecks
+abbrev Inv-loop : tie.InvT-loop
+Inv-loop request n j₀ verdict₀ j verdict = Judged (riderNodeChecks n request) (riderCount request) j verdict
+
+abbrev μ-loop : tie.MeasureT-loop
+μ-loop request n j₀ verdict₀ j verdict = j
+
+loop-holds : tie.Need-loop-holds Inv-loop μ-loop
+loop-holds c = judged-none (c .rider-count .ensures .value)
+
+loop-again : tie.Need-loop-again Inv-loop μ-loop
+unfolding firstOf
+loop-again c = judged-more (c .before .before .before .loop .inv) (search needs) (cc)
+
+returns : tie.Need-returns Inv-loop μ-loop
+unfolding nodeChecks firstOf
 returns c =
-    c .refused .ensures ∙ sym (given 16 0 _ (rw (c .before .before .before .request-source .ensures .value) at (le-leb _ _ (c .before .if1 .taken))))
-
-returns-2 : tie.Need-returns-2
-unfolding nodeChecks
-returns-2 c =
-    c .refused2 .ensures
-    ∙ sym
-    (passed 16 0 _ (rw (c .before .before .before .before .request-source .ensures .value) at (lt-leb _ _ (c .before .before .if1 .left)))
-    ∙ given 16 1 _ (rw (c .before .before .before .request-target .ensures .value) at (le-leb _ _ (c .before .if2 .taken))))
-
-returns-3 : tie.Need-returns-3
-unfolding nodeChecks
-returns-3 c =
-    c .rider-nodes-verdict .ensures
-    ∙ sym
-    (passed 16 0 _ (rw (c .before .before .before .before .request-source .ensures .value) at (lt-leb _ _ (c .before .before .if1 .left)))
-    ∙ passed 16 1 _ (rw (c .before .before .before .request-target .ensures .value) at (lt-leb _ _ (c .before .if2 .left))))
+    let riders = judged-all (c .before .before .before .before .before .loop .inv) (omega arith) in
+    cc
 
 pub nodes-verdict-spec : {M : Type 1} → statement M
 nodes-verdict-spec =
     tie.close
     (tie.spec
+    Inv-loop
+    μ-loop
+    (λ c κs. search needs)
+    loop-holds
+    (λ c. search needs)
+    (λ c κs. search needs)
+    (λ c. search needs)
+    (λ c κs. search needs)
+    (λ c. search needs)
+    loop-again
     (λ c κs. search needs)
     (λ c κs. search needs)
     (λ c κs. search needs)
-    returns
     (λ c κs. search needs)
-    returns-2
-    (λ c κs. search needs)
-    returns-3)
+    returns)

@@ -1,8 +1,9 @@
+-- The request's value stands beside an accepted verdict, and zeros beside a refusal.
 use mathlib.Core.Path.{_∙_, sym}
 use native.Mathlib.Nat.{le-of-eq}
-use Rattle.rules.proofs.SoundRequestLaws.{records-sound}
-use Rattle.rules.specs.Request.{requestOf}
 use borrow.Author.Needs.{needs}
+use Rattle.rules.specs.Request.{requestOf}
+use Rattle.rules.proofs.SoundRequestLaws.{records-sound}
 use Rattle.records.proofs.request.read_request.Statement.{statement}
 use Rattle.records.proofs.request.read_request.Tie as tie
 

@@ -1,27 +1,55 @@
-use Rattle.rules.specs.Request.{requestValue}
+-- Of each array the first j places are those of the riders, and the others 0; the measure is how many riders are left.
+use Prim.Native.Nat.{_-_, _≤_}
+use native.Mathlib.Omega.{arith}
+use mathlib.Core.Path.{_≡_, refl}
 use borrow.Author.Needs.{needs}
+use Rattle.rules.specs.Request.{riderNode, riderWeight, sevenPlaces, requestValue}
+use Rattle.records.proofs.RequestLaws.{place-more}
 use Rattle.records.proofs.request.request_value.Statement.{statement}
 use Rattle.records.proofs.request.request_value.Tie as tie
 
-returns : tie.Need-returns
+abbrev Inv-loop : tie.InvT-loop
+Inv-loop request count nodes₀ weights₀ j₀ nodes weights j =
+    (j ≤ count) × (nodes ≡ sevenPlaces (riderNode request) j) × (weights ≡ sevenPlaces (riderWeight request) j)
+
+abbrev μ-loop : tie.MeasureT-loop
+μ-loop request count nodes₀ weights₀ j₀ nodes weights j = count - j
+
+loop-holds : tie.Need-loop-holds Inv-loop μ-loop
+unfolding sevenPlaces
+loop-holds c = (omega arith, refl, refl)
+
+loop-again : tie.Need-loop-again Inv-loop μ-loop
+loop-again c =
+    let at = c .before .before .before .loop in (
+      omega arith,
+      rw (c .before .rider-node .ensures .value, at .inv .1) (place-more _ (at .j) (omega arith)),
+      rw (c .rider-weight .ensures .value, at .inv .2) (place-more _ (at .j) (omega arith)),
+    )
+
+returns : tie.Need-returns Inv-loop μ-loop
 unfolding requestValue
 returns c =
-    rw (
-      c .before .before .before .before .request-source .ensures .value,
-      c .before .before .before .request-target .ensures .value,
-      c .before .before .bus-weight .ensures .value,
-      c .before .rider-nodes .ensures,
-      c .rider-weights .ensures,
-      c .before .before .before .before .before .rider-count .ensures .value,
-    )
+    let all : c .before .before .before .before .loop .j ≡ c .before .before .before .before .before .rider-count .result = omega arith in
+    cc
 
 pub request-value-spec : {M : Type 1} → statement M
 request-value-spec =
     tie.close
     (tie.spec
+    Inv-loop
+    μ-loop
     (λ c κs. search needs)
+    loop-holds
     (λ c κs. search needs)
+    (λ c. search needs)
+    (λ c. search needs)
     (λ c κs. search needs)
+    (λ c. search needs)
+    (λ c. search needs)
+    (λ c. search needs)
+    (λ c. search needs)
+    loop-again
     (λ c κs. search needs)
     (λ c κs. search needs)
     (λ c κs. search needs)

@@ -1,29 +1,47 @@
-use mathlib.Core.Path.{_∙_, sym}
-use Rattle.rules.specs.Request.{weightChecks}
-use Rattle.rules.proofs.Order.{given, passed}
+-- The riders' weights from rider j on are judged; the measure is j.
+use native.Mathlib.Omega.{arith}
 use borrow.Author.Needs.{needs}
+use Rattle.rules.specs.Checks.{firstOf}
+use Rattle.rules.specs.Request.{riderCount, riderWeightChecks, weightChecks}
+use Rattle.records.proofs.CheckLaws.{Judged, judged-none, judged-more, judged-all}
 use Rattle.records.proofs.request.weights_verdict.Statement.{statement}
 use Rattle.records.proofs.request.weights_verdict.Tie as tie
 
-returns : tie.Need-returns
-unfolding weightChecks
-returns c =
-    c .refused .ensures
-    ∙ sym (given 17 0 _ (rw (c .before .before .before .bus-weight .ensures .value) at (sym (c .before .before .outside .ensures) ∙ c .before .if1 .taken)))
+abbrev Inv-loop : tie.InvT-loop
+Inv-loop request j₀ verdict₀ j verdict = Judged (riderWeightChecks request) (riderCount request) j verdict
 
-returns-2 : tie.Need-returns-2
-unfolding weightChecks
-returns-2 c =
-    c .rider-weights-verdict .ensures
-    ∙ sym (passed 17 0 _ (rw (c .before .before .before .bus-weight .ensures .value) at (sym (c .before .before .outside .ensures) ∙ c .before .if1 .left)))
+abbrev μ-loop : tie.MeasureT-loop
+μ-loop request j₀ verdict₀ j verdict = j
+
+loop-holds : tie.Need-loop-holds Inv-loop μ-loop
+loop-holds c = judged-none (c .rider-count .ensures .value)
+
+loop-again : tie.Need-loop-again Inv-loop μ-loop
+unfolding firstOf
+loop-again c = judged-more (c .before .before .before .before .loop .inv) (search needs) (cc)
+
+returns : tie.Need-returns Inv-loop μ-loop
+unfolding weightChecks firstOf
+returns c =
+    let riders = judged-all (c .before .before .before .before .loop .inv) (omega arith) in
+    cc
 
 pub weights-verdict-spec : {M : Type 1} → statement M
 weights-verdict-spec =
     tie.close
     (tie.spec
+    Inv-loop
+    μ-loop
+    (λ c κs. search needs)
+    loop-holds
+    (λ c. search needs)
+    (λ c κs. search needs)
+    (λ c κs. search needs)
+    (λ c. search needs)
+    (λ c κs. search needs)
+    (λ c. search needs)
+    loop-again
     (λ c κs. search needs)
     (λ c κs. search needs)
     (λ c κs. search needs)
-    returns
-    (λ c κs. search needs)
-    returns-2)
+    returns)
