@@ -33,12 +33,12 @@ pub record Goes (m : Move) (S x c : ℕ) : Type 0 where
 module _ {network : List ℕ} {q : Request} {D : ℕ → ℕ → ℕ}
     (sound : SoundNetwork network) (value : SoundValue (nodeCount network) q) (walking : DistancesHold network q D)
     {R v : ℕ} (small : R < 2 ^ riderCountOf q) (h : v < nodeCount network) where
-  known : {j : ℕ} → Has R j → RiderHolds network q j v (D j v)
-  known {j} has = walking j v (has-below R j (riderCountOf q) small has) h
+  held : {j : ℕ} → Has R j → RiderHolds network q j v (D j v)
+  held {j} has = walking j v (has-below R j (riderCountOf q) small has) h
 
   pub step-move : {step S x c : ℕ} → Step network q R v step S x c → Goes (move network q D R v step) S x c
   step-move {step} {S} {x} {c} (meets d has walks s n e) =
-      let same : d ≡ D step v = rider-holds-unique (inl walks) (known has) in
+      let same : d ≡ D step v = rider-holds-unique (inl walks) (held has) in
       let goes : Goes (meetMove network q D R v step) S x c = record {
         allowed = (has, omega (arith, rider-bounded sound h walks));
         set = s;
@@ -67,7 +67,7 @@ module _ {network : List ℕ} {q : Request} {D : ℕ → ℕ → ℕ}
   ]
     where
       meeting : Taking step (meetMove network q D R v step)
-      meeting (has, near) = meets (D step v) has (held-walks (known has) (omega arith)) refl refl refl
+      meeting (has, near) = meets (D step v) has (held-walks (held has) (omega arith)) refl refl refl
 
       driving : firstDrive ≤ step → Taking step (driveMove network q D R v (step - firstDrive))
       driving high (exists, (starts, opened)) =

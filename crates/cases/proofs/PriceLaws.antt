@@ -32,16 +32,16 @@ module _ {network : List ℕ} {q : Request} {D : ℕ → ℕ → ℕ}
   tested-meeting j {position} h way ((within, far), (least, earliest)) =
       record {
         within = within;
-        walks = held-walks (known position) (omega arith);
+        walks = held-walks (held position) (omega arith);
         least = λ other e less walks. rw (told other walks) (least other (omega arith));
         earliest = λ other less walks. omega (arith, told other walks, earliest other less);
       }
     where
-      known : (p : ℕ) → RiderHolds network q j (nodeAt network (q .source) route p) (walkTo network q D route j p)
-      known p = walking j _ h (node-below route sound (value .starts) (way-known way) p)
+      held : (p : ℕ) → RiderHolds network q j (nodeAt network (q .source) route p) (walkTo network q D route j p)
+      held p = walking j _ h (node-below route sound (value .starts) (way-known way) p)
 
       told : (p : ℕ) {e : ℕ} → RiderWalks network q j (nodeAt network (q .source) route p) e → e ≡ walkTo network q D route j p
-      told p walks = rider-holds-unique (inl walks) (known p)
+      told p walks = rider-holds-unique (inl walks) (held p)
 
   pub tested-price : (meetings : List ℕ) {price : ℕ} → Says (priceTest network q D route meetings price)
       → Price network q route meetings price

@@ -3,14 +3,14 @@ use Prim.Native.Nat.{ℕ, _+_, _*_, _≤_, _<_}
 use mathlib.Core.Path.{_≡_, refl, sym, ap, _∙_}
 use mathlib.Core.Logic.{_≢_}
 use mathlib.Core.List.{List}
-use lib.ListN.{length, take, drop, length-append, length-drop, length-replicate, List·getD-append}
+use lib.ListN.{length, getD, take, drop, length-append, length-drop, length-replicate, List·getD-append}
 use lib.Seq.{take-append-seam, drop-append-seam}
 use native.Mathlib.Nat.{le-refl}
 use native.Mathlib.Omega.{arith}
 use Rattle.rules.specs.Checks.{firstOf}
-use Rattle.rules.specs.Network.{nodeCount}
 use Rattle.rules.specs.Request.{requestVerdict, recordChecks}
-use Rattle.rules.specs.Rooms.{Kept, Distances, Table, Lent}
+use Rattle.rules.specs.Routes.{RiderHolds}
+use Rattle.rules.specs.Rooms.{Kept, Distances, HoldsFinish, Table, Lent}
 use Rattle.rules.specs.Answers.{Outcome, searchChecks, hopeless, planned}
 use Rattle.rules.specs.declared.Verdict.the-variants.{Accepted}
 use Rattle.rules.proofs.Clash.{clash}
@@ -20,12 +20,19 @@ use Rattle.rules.proofs.AnswerLaws.{searched-unique}
 use Rattle.cases.specs.Cases.{Result, plan, none, Case, asked, Right, Holds}
 use Rattle.cases.specs.Searches.{answerOf, stepsOf, EnoughFor, zeros, over, leaves, SearchedCase, Fails}
 
+-- Values laid over a room from its start on: later places are kept, and each place of a row holds its value.
 over-kept : {count : ℕ} (values room : List ℕ) → length values ≡ count → count ≤ length room → Kept count room (over values room)
 over-kept values room e h =
     record {
       size = simp (length-append, length-drop) (omega arith);
       later = rw (← e) (drop-append-seam values (drop (length values) room));
     }
+
+over-holds : (P : ℕ → ℕ → ℕ → Type 0) {rows n j v : ℕ} (values room : List ℕ) → length values ≡ rows * n → j < rows → v < n
+    → P j v (getD values (j * n + v) 0) → P j v (getD (over values room) (j * n + v) 0)
+over-holds P {n = n} {j} {v} values room size h g p =
+    let inside : j * n + v < length values = rw size (place-within h g) in
+    rw (List·getD-append values (drop (length values) room) 0 (j * n + v) inside) p
 
 pub zeros-enough : (c : Case) → EnoughFor c (zeros c)
 zeros-enough c =
@@ -38,20 +45,18 @@ module _ {c : Case} (holds : Holds c) {before : Lent} (enough : EnoughFor c befo
 
   distances-filled : Distances (c .network) (asked c) (before .distances) (leaves c before .distances)
   distances-filled =
+      let size = holds .distanceSize in
       record {
-        holds = λ j v h g.
-            let inside : j * nodeCount (c .network) + v < length (c .distances) = rw (holds .distanceSize) (place-within h g) in
-            rw (List·getD-append (c .distances) _ 0 _ inside) (holds .distances j v h g);
-        kept = over-kept (c .distances) (before .distances) (holds .distanceSize) (enough .distances);
+        holds = λ j v h g. over-holds (RiderHolds (c .network) (asked c)) (c .distances) (before .distances) size h g (holds .distances j v h g);
+        kept = over-kept (c .distances) (before .distances) size (enough .distances);
       }
 
   table-filled : Table (c .network) (asked c) (before .table) (leaves c before .table)
   table-filled =
+      let size = holds .tableSize in
       record {
-        holds = λ R v h g.
-            let inside : R * nodeCount (c .network) + v < length (c .table) = rw (holds .tableSize) (place-within h g) in
-            rw (List·getD-append (c .table) _ 0 _ inside) (holds .table R v h g);
-        kept = over-kept (c .table) (before .table) (holds .tableSize) (enough .table);
+        holds = λ R v h g. over-holds (HoldsFinish (c .network) (asked c)) (c .table) (before .table) size h g (holds .table R v h g);
+        kept = over-kept (c .table) (before .table) size (enough .table);
       }
 
   -- A search of the case can end as the case says,
