@@ -1,4 +1,4 @@
--- What document 01 says of its cases besides their results.
+-- What is said of the cases besides their results (5.3).
 use Prim.Native.Nat.{ℕ}
 use native.Mathlib.Omega.{arith}
 use mathlib.Core.Path.{_≡_, refl, ap}
@@ -12,13 +12,13 @@ use Rattle.rules.specs.Answers.{Outcome, gives, Searched}
 use Rattle.rules.specs.Town.{town, caseA}
 use Rattle.cases.specs.Cases.{asked}
 use Rattle.cases.specs.TownRows.{rowA, rowD}
-use Rattle.cases.specs.Searches.{EnoughFor, filled}
+use Rattle.cases.specs.Searches.{EnoughFor, leaves}
 use Rattle.cases.proofs.Certificate.{pricedAt}
 use Rattle.cases.proofs.CaseLaws.{case-priced}
 use Rattle.cases.proofs.SearchLaws.{searched-case}
 use Rattle.cases.proofs.Tables.{town-holds}
 
--- "In case A table place 5 holds 32,771, place 1 holds 12,289, place 3 holds 0.": place R·n+v, with n = 5.
+-- Three places of the table in case A: place R·n+v, with n = 5.
 pub place-5 : HoldsFinish town (requestValue caseA) 1 0 32771
 unfolding number requestValue
 place-5 = town-holds 0 .table 1 0 (omega arith) (omega arith)
@@ -32,20 +32,25 @@ unfolding number requestValue
 place-3 = town-holds 0 .table 0 3 (omega arith) (omega arith)
 
 -- So a search of case A leaves them there, beside its answer and its steps.
-pub searched-A : {before after : Lent} {answer : Outcome} → EnoughFor rowA before → Searched town caseA before after answer → (answer ≡ gives (8 ∷ 3 ∷ [])) × (getD (after .table) 5 0 ≡ 32771) × (getD (after .table) 1 0 ≡ 12289) × (getD (after .table) 3 0 ≡ 0) × (take 3 (after .steps) ≡ 8 ∷ 0 ∷ 9 ∷ [])
-searched-A {before} {after} roomy s =
-    let (rooms, answer) = searched-case (town-holds 0) roomy s in
+pub searched-A : {before after : Lent} {answer : Outcome} → EnoughFor rowA before → Searched town caseA before after answer
+    → (answer ≡ gives (8 ∷ 3 ∷ []))
+    × (getD (after .table) 5 0 ≡ 32771)
+    × (getD (after .table) 1 0 ≡ 12289)
+    × (getD (after .table) 3 0 ≡ 0)
+    × (take 3 (after .steps) ≡ 8 ∷ 0 ∷ 9 ∷ [])
+searched-A {before} {after} enough s =
+    let (rooms, answer) = searched-case (town-holds 0) enough s in
     (answer, place 5 rooms, place 1 rooms, place 3 rooms, ap (λ (l : Lent). take 3 (l .steps)) rooms)
   where
-    place : (i : ℕ) → after ≡ filled rowA before → getD (after .table) i 0 ≡ getD (filled rowA before .table) i 0
+    place : (i : ℕ) → after ≡ leaves rowA before → getD (after .table) i 0 ≡ getD (leaves rowA before .table) i 0
     place i rooms = ap (λ (l : Lent). getD (l .table) i 0) rooms
 
--- "Price of route 2, 3 in A: 15, meeting at position 1."
+-- The route along links 2 and 3 costs 15 in case A, and meets the rider at position 1.
 pub price-in-A : Price town (requestValue caseA) (2 ∷ 3 ∷ []) (1 ∷ []) 15
 unfolding pricedAt
 price-in-A = case-priced (town-holds 0) (2 ∷ 3 ∷ []) (1 ∷ []) refl
 
--- D: "tie with B's route", which costs 22 too.
+-- The route of case B costs as much in case D as the right one, 22.
 pub price-in-D : Price town (asked rowD) (2 ∷ 7 ∷ 5 ∷ 3 ∷ []) (2 ∷ []) 22
 unfolding pricedAt
 price-in-D = case-priced (town-holds 3) (2 ∷ 7 ∷ 5 ∷ 3 ∷ []) (2 ∷ []) refl

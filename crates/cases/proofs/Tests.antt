@@ -8,22 +8,22 @@ use lib.Dec.{leb, ltb, eqb}
 pub data Test : Type 0 where
   atMost : ℕ → ℕ → Test
   below : ℕ → ℕ → Test
-  same : ℕ → ℕ → Test
+  equal : ℕ → ℕ → Test
   both : Test → Test → Test
   either : Test → Test → Test
-  given : Test → Test → Test
-  each : ℕ → (ℕ → Test) → Test
-  some : ℕ → (ℕ → Test) → Test
+  implies : Test → Test → Test
+  forEach : ℕ → (ℕ → Test) → Test
+  forSome : ℕ → (ℕ → Test) → Test
 
 abbrev pub Says : Test → Type 0
 Says (atMost a b) = a ≤ b
 Says (below a b) = a < b
-Says (same a b) = a ≡ b
+Says (equal a b) = a ≡ b
 Says (both s t) = Says s × Says t
 Says (either s t) = Says s ⊎ Says t
-Says (given s t) = Says s → Says t
-Says (each n f) = (k : ℕ) → k < n → Says (f k)
-Says (some n f) = (k : ℕ) × (k < n) × Says (f k)
+Says (implies s t) = Says s → Says t
+Says (forEach n f) = (k : ℕ) → k < n → Says (f k)
+Says (forSome n f) = (k : ℕ) × (k < n) × Says (f k)
 
 unfoldable pub allBelow : ℕ → (ℕ → Bool) → Bool
 allBelow zero f = true
@@ -36,9 +36,9 @@ anyBelow (suc n) f = f n || anyBelow n f
 unfoldable pub passes : Test → Bool
 passes (atMost a b) = leb a b
 passes (below a b) = ltb a b
-passes (same a b) = eqb a b
+passes (equal a b) = eqb a b
 passes (both s t) = passes s && passes t
 passes (either s t) = passes s || passes t
-passes (given s t) = not (passes s) || passes t
-passes (each n f) = allBelow n (λ k. passes (f k))
-passes (some n f) = anyBelow n (λ k. passes (f k))
+passes (implies s t) = not (passes s) || passes t
+passes (forEach n f) = allBelow n (λ k. passes (f k))
+passes (forSome n f) = anyBelow n (λ k. passes (f k))

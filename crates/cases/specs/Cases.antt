@@ -4,8 +4,8 @@ use mathlib.Core.Path.{_≡_}
 use mathlib.Core.List.{List, [], _∷_}
 use lib.ListN.{length, getD}
 use Rattle.rules.specs.Network.{nodeCount}
-use Rattle.rules.specs.Request.{riderNodeOf, requestValue, requestVerdict, riderCountOf}
-use Rattle.rules.specs.Walks.{HoldsDistance}
+use Rattle.rules.specs.Request.{requestValue, requestVerdict, riderCountOf}
+use Rattle.rules.specs.Routes.{RiderHolds}
 use Rattle.rules.specs.Plans.{RightPlan, NoPlan}
 use Rattle.rules.specs.Rooms.{HoldsFinish, distancePlaces, tablePlaces}
 use Rattle.rules.specs.declared.Request.{Request}
@@ -34,9 +34,12 @@ rowDistance c j v = getD (c .distances) (j * nodeCount (c .network) + v) 0
 abbrev pub rowValue : Case → ℕ → ℕ → ℕ
 rowValue c R v = getD (c .table) (R * nodeCount (c .network) + v) 0
 
--- the place of a best finish
-abbrev pub best : ℕ → ℕ → ℕ
-best cost steps = 4096 * cost + steps
+-- how many places the search fills
+abbrev pub distanceNeed : Case → ℕ
+distanceNeed c = distancePlaces (nodeCount (c .network)) (riderCountOf (asked c))
+
+abbrev pub tableNeed : Case → ℕ
+tableNeed c = tablePlaces (nodeCount (c .network)) (riderCountOf (asked c))
 
 -- what the rules say of a result
 abbrev pub Right : List ℕ → Request → Result → Type 0
@@ -46,10 +49,12 @@ Right network q none = NoPlan network q
 -- The claim of a case: its records are sound, its result is right, and so is every place of its distances and its table.
 pub record Holds (c : Case) : Type 0 where
   pub accepted : requestVerdict (c .network) (c .request) ≡ Accepted
-  pub distanceSize : length (c .distances) ≡ distancePlaces (nodeCount (c .network)) (riderCountOf (asked c))
-  pub tableSize : length (c .table) ≡ tablePlaces (nodeCount (c .network)) (riderCountOf (asked c))
-  pub distances : (j v : ℕ) → j < riderCountOf (asked c) → v < nodeCount (c .network) → HoldsDistance (c .network) (riderNodeOf (asked c) j) v (rowDistance c j v)
-  pub table : (R v : ℕ) → R < 2 ^ riderCountOf (asked c) → v < nodeCount (c .network) → HoldsFinish (c .network) (asked c) R v (rowValue c R v)
+  pub distanceSize : length (c .distances) ≡ distanceNeed c
+  pub tableSize : length (c .table) ≡ tableNeed c
+  pub distances : (j v : ℕ) → j < riderCountOf (asked c) → v < nodeCount (c .network)
+      → RiderHolds (c .network) (asked c) j v (rowDistance c j v)
+  pub table : (R v : ℕ) → R < 2 ^ riderCountOf (asked c) → v < nodeCount (c .network)
+      → HoldsFinish (c .network) (asked c) R v (rowValue c R v)
   pub result : Right (c .network) (asked c) (c .result)
 
 -- a claim of the case at place i of a table, if there is one

@@ -1,6 +1,5 @@
--- Where the rules and source document 000 meet: all links exist both ways, each way driven and walked at one and the same cost, and
--- every rider weighs the same. There the price is a + w times the paper's f with alpha = a / (a + w), where a is the bus weight and w
--- a rider's.
+-- The networks and requests that source document 000 is about: each link has one back, bus and walkers pay the same for it, and riders
+-- are of one weight. There the price is the paper's f, in whole numbers.
 use Prim.Native.Nat.{ℕ, _+_, _<_}
 use mathlib.Core.Path.{_≡_}
 use mathlib.Core.Logic.{_⊎_, ⊎-swap}

@@ -172,7 +172,7 @@ module _ {network : List ℕ} {q : Request} {j : ℕ} where
       (rw (drives-meet steps low) at walks) in
       record {
         others = i ∷ t .others;
-        finishes = meet {c = riderWeightOf q j * d + c} e (riderWeightOf q j * d + rest) member walked (t .finishes) (omega arith);
+        finishes = meet {c = riderWeightOf q j * d + c} {steps = t .others} e _ member walked (t .finishes) (omega arith);
         besides = meeting {others = t .others} low g (t .besides);
         ahead = past-meeting j p steps (t .others) low (t .ahead);
       }
