@@ -1,8 +1,8 @@
 -- Invariant: the riders below j are met, and the price is that of the drive and of their walks. Each turn leaves one rider less to meet.
-use Prim.Native.Nat.{_-_, _≤_, _*_, _+_}
+use Prim.Native.Nat.{_-_, _≤_, _*_}
 use native.Mathlib.Omega.{arith}
 use native.Mathlib.Nat.{mul-le-mul}
-use mathlib.Core.Path.{_≡_, refl, _∙_}
+use mathlib.Core.Path.{_≡_, refl}
 use lib.ListN.{length, getD, length-set}
 use borrow.Author.Needs.{needs}
 use Rattle.rules.specs.Limits.{mostRiders, mostWeight}
