@@ -1,55 +1,73 @@
--- How large a price is: 4,095 links of 65,534 at bus weight 100, and 7 riders of weight 100 who walk 511 links of 65,534.
-use Prim.Native.Nat.{ℕ, zero, suc, _+_, _*_, _≤_, _<_}
+-- How large a price is: that of the longest route, driven and walked to at the highest weights.
+use Prim.Native.Nat.{ℕ, zero, suc, _+_, _-_, _*_, _≤_, _<_}
 use native.Mathlib.Omega.{arith}
 use native.Mathlib.Nat.{mul-le-mul}
 use mathlib.Core.Path.{_≡_}
 use mathlib.Core.List.{List, [], _∷_, _++_}
 use lib.ListN.{length}
-use Rattle.rules.specs.Network.{nodeCount, SoundNetwork}
-use Rattle.rules.specs.Request.{riderWeightOf, SoundValue, recordChecks, requestVerdict, requestValue, riderCountOf}
+use Rattle.rules.specs.Limits.{mostWeight, mostRiders, closed, longestRoute}
+use Rattle.rules.specs.Request.{riderWeightOf, recordChecks, requestVerdict, requestValue, riderCountOf}
 use Rattle.rules.specs.Walks.{Way, arrived, along}
-use Rattle.rules.specs.Routes.{Drivable, sum, Price, routeChecks}
+use Rattle.rules.specs.Routes.{Drivable, Price, sum, routeChecks}
 use Rattle.rules.specs.Answers.{Outcome, gives, Pricing, refused, stranded, priced}
 use Rattle.rules.specs.Checks.{Check, firstOf}
 use Rattle.rules.specs.declared.Request.{Request}
-use Rattle.rules.specs.declared.Verdict.the-variants.{Accepted}
 use Rattle.rules.proofs.Clash.{clash}
 use Rattle.rules.proofs.Order.{accepted-head, accepted-front, accepted-rest}
 use Rattle.rules.proofs.SoundRequestLaws.{records-sound, value-sound}
-use Rattle.finish.proofs.Bounds.{walking-bounded}
-use Rattle.price.specs.Near.{RouteFrom}
-use Rattle.price.proofs.RouteLaws.{route-accepted}
-use Rattle.price.proofs.NearLaws.{node-below}
+use Rattle.rules.proofs.WalkLaws.{way-sum}
+use Rattle.least.specs.WalkTrips.{longestWalk}
+use Rattle.finish.proofs.Bounds.{rider-bounded}
+use Rattle.price.specs.Sound.{SoundRoute, drivingOf}
+use Rattle.price.proofs.RouteLaws.{route-sound}
+use Rattle.price.proofs.NearLaws.{position-below}
+use Rattle.price.proofs.MeetLaws.{MetBelow}
 
-driving-bounded : {network : List ℕ} {u v c : ℕ} {route : List ℕ} → Way (Drivable network) u v route c → c ≤ length route * 65534
+driving-bounded : {network : List ℕ} {u v c : ℕ} {route : List ℕ} → Way (Drivable network) u v route c → c ≤ length route * (closed - 1)
 driving-bounded (arrived here free) = omega arith
 driving-bounded (along x w rest leads way e) = omega (arith, leads .opened, driving-bounded way)
 
-abbrev mostWalk : ℕ
-mostWalk = 100 * (511 * 65534)
-
-sum-bounded : (count : ℕ) (f : ℕ → ℕ) → ((j : ℕ) → j < count → f j ≤ mostWalk) → sum count f ≤ count * mostWalk
+sum-bounded : (most count : ℕ) (f : ℕ → ℕ) → ((j : ℕ) → j < count → f j ≤ most) → sum count f ≤ count * most
 unfolding sum
-sum-bounded zero f small = omega arith
-sum-bounded (suc count) f small =
-    omega (arith, small count (omega arith), sum-bounded count f (λ j h. small j (omega arith)))
+sum-bounded most zero f small = omega arith
+sum-bounded most (suc count) f small =
+    omega (arith, small count (omega arith), sum-bounded most count f (λ j h. small j (omega arith)))
+
+-- what driving a route, and one rider's walk, cost at their most
+abbrev mostDriving : ℕ
+mostDriving = mostWeight * (longestRoute * (closed - 1))
+
+abbrev mostWalking : ℕ
+mostWalking = mostWeight * longestWalk
 
 abbrev pub mostPrice : ℕ
-mostPrice = 100 * (4095 * 65534) + 7 * mostWalk
+mostPrice = mostDriving + mostRiders * mostWalking
 
-price-bounded : {network : List ℕ} {q : Request} {route meetings : List ℕ} {price : ℕ} → SoundNetwork network → SoundValue (nodeCount network) q → firstOf (routeChecks network q route) ≡ Accepted → Price network q route meetings price → price ≤ mostPrice
-price-bounded {network} {q} {route} sound value passes p =
-    let known = route-accepted network q route passes .1 in
-    let far : p .driving ≤ 4095 * 65534 = omega (arith, known .few, driving-bounded (p .drives)) in
-    let drives = mul-le-mul (value .bus .1) far in
-    let from : RouteFrom network (q .source) route = record { sound = sound; starts = value .starts; known = known } in
-    let walks = sum-bounded (riderCountOf q) (λ j. riderWeightOf q j * p .walking j)
-    (λ j h. mul-le-mul (value .weights j h .1) (walking-bounded sound (node-below route from _ (p .meets j h .within)) (p .meets j h .walks))) in
-    omega (arith, p .adds, value .riders, drives, walks)
+module _ {network : List ℕ} {q : Request} {route : List ℕ} (may : SoundRoute network q route) where
+  pub met-bounded : {j price : ℕ} {meetings : List ℕ} → MetBelow network q route j price meetings → price ≤ mostPrice
+  met-bounded {j} so =
+      let far : drivingOf network route ≤ longestRoute * (closed - 1) = omega (arith, may .few, driving-bounded (may .drives)) in
+      let drives = mul-le-mul (may .value .bus .1) far in
+      let walks = sum-bounded mostWalking j (λ i. riderWeightOf q i * so .walking i)
+      (λ i h. mul-le-mul (may .value .weights i (omega (arith, so .within)) .1)
+      (rider-bounded (may .sound) (position-below may _) (so .meets i h .walks))) in
+      omega (arith, so .adds, so .within, may .value .riders, drives, walks)
+
+  -- A price is that of all riders met.
+  price-met : {price : ℕ} {meetings : List ℕ} → Price network q route meetings price
+      → MetBelow network q route (riderCountOf q) price meetings
+  price-met p =
+      record {
+        within = omega arith;
+        walking = p .walking;
+        meets = p .meets;
+        adds = rw (way-sum (p .drives) (may .drives)) at (p .adds);
+      }
 
 -- Pricing by the records' checks, one check more (31, or the tablet's 38) and the route's.
 pub pricing-bounded : (network request route : List ℕ) (c : Check) {meetings : List ℕ} {answer : Outcome} {price : ℕ}
-    → Pricing (firstOf (recordChecks network request ++ c ∷ routeChecks network (requestValue request) route)) network (requestValue request) route answer meetings
+    → Pricing (firstOf (recordChecks network request ++ c ∷ routeChecks network (requestValue request) route)) network (requestValue request)
+    route answer meetings
     → answer ≡ gives (price ∷ [])
     → price ≤ mostPrice
 unfolding requestVerdict
@@ -60,6 +78,7 @@ pricing-bounded network request route c {price = price} pricing told = elim pric
       let same : p ≡ price = cc in
       let (sound, request-sound) = records-sound network request (accepted-front (recordChecks network request) _ v) in
       let passes = accepted-head c _ (accepted-rest (recordChecks network request) _ v) .1 in
-      omega (arith, price-bounded sound (value-sound _ request request-sound) passes costs)
+      let may = route-sound network _ route sound (value-sound _ request request-sound) passes in
+      omega (arith, met-bounded may (price-met may costs))
       )
 ]

@@ -1,72 +1,65 @@
--- The answers of pricing, and the meeting positions written into the room.
-use Prim.Native.Nat.{ℕ, zero, suc, _+_, _≤_, _<_}
-use native.Mathlib.Omega.{arith}
-use native.Mathlib.Numerals.{add-one}
-use mathlib.Core.Path.{_≡_, refl, sym, _∙_, ap}
+-- What is answered before a route's own refusals, by pricing and by the tablet: the records' refusals, and one check more (31, or the
+-- tablet's 38). And the meeting positions in their room.
+use Prim.Native.Nat.{ℕ}
+use mathlib.Core.Path.{_≡_, refl, sym, _∙_}
+use mathlib.Core.Bool.{true, false}
 use mathlib.Core.List.{List, [], _∷_, _++_}
-use lib.ListN.{length, getD, set, take, drop, length-append, length-drop}
-use lib.Seq.{length-take-le}
-use lib.Dec.{ltb}
-use borrow.Author.Tests.{lt-ltb, le-ltb}
-use Rattle.rules.specs.Checks.{check, refuse, firstOf}
-use Rattle.rules.specs.Request.{recordChecks, requestVerdict, requestValue, riderCountOf}
+use lib.ListN.{getD, take}
+use lib.Seq.{getD-take}
+use Rattle.rules.specs.Checks.{Check, refuse, firstOf}
+use Rattle.rules.specs.Network.{SoundNetwork, nodeCount}
+use Rattle.rules.specs.Request.{SoundValue, recordChecks, requestVerdict, requestValue, requestOf, riderCountOf}
 use Rattle.rules.specs.Routes.{routeChecks}
-use Rattle.rules.specs.Rooms.{Written}
-use Rattle.rules.specs.Answers.{Outcome, gives, refuses, Pricing, refused, stranded, priced, priceChecks, PricedRoute}
+use Rattle.rules.specs.Rooms.{Written, WrittenTo}
+use Rattle.rules.specs.Answers.{Outcome, gives, refuses, Pricing, refused, stranded, priced}
 use Rattle.rules.specs.declared.Refusal.{Refusal}
 use Rattle.rules.specs.declared.Request.{Request}
+use Rattle.rules.specs.declared.RequestRead.{RequestRead}
 use Rattle.rules.specs.declared.Verdict.{Verdict}
 use Rattle.rules.specs.declared.Verdict.the-variants.{Accepted, Refused as NotAccepted}
 use Rattle.rules.proofs.Clash.{clash}
 use Rattle.rules.proofs.Order.{given, passed, front-refused, front-passed}
+use Rattle.rules.proofs.SoundRequestLaws.{records-sound, value-sound}
+use Rattle.rules.proofs.WritingLaws.{written-all}
+use Rattle.records.proofs.RequestLaws.{request-verdict, request-accepted, request-value}
 
-copy-suc : (xs d : List ℕ) (j : ℕ) → j < length xs → j < length d → set (take j xs ++ drop j d) j (getD xs j 0) ≡ take (suc j) xs ++ drop (suc j) d
-copy-suc [] d j h g = absurd (omega arith)
-copy-suc (x ∷ xs) [] j h g = absurd (omega arith)
-copy-suc (x ∷ xs) (y ∷ d) zero h g = refl
-copy-suc (x ∷ xs) (y ∷ d) (suc j) h g = ap (λ (l : List ℕ). x ∷ l) (copy-suc xs d j (omega arith) (omega arith))
+-- How pricing ends behind the records' checks and the check c.
+abbrev pub PricedBehind : List ℕ → List ℕ → List ℕ → Check → Outcome → List ℕ → Type 0
+PricedBehind network request route c =
+    Pricing (firstOf (recordChecks network request ++ c ∷ routeChecks network (requestValue request) route)) network (requestValue request) route
 
--- one position more at the front of the room
-pub copy-more : (xs d : List ℕ) (j : ℕ) → j < length xs → j < length d → set (take j xs ++ drop j d) j (getD xs j 0) ≡ take (j + 1) xs ++ drop (j + 1) d
-copy-more xs d j h g = rw add-one (copy-suc xs d j h g)
+module _ (network request : List ℕ) {read : RequestRead} (is : read ≡ requestOf network request) where
+  pub records-read : read .verdict ≡ Accepted → SoundNetwork network × SoundValue (nodeCount network) (read .request)
+  records-read accepted =
+      let (sound, request-sound) = records-sound network request (request-accepted network request is accepted) in
+      (sound, rw (request-value network request is accepted) (value-sound _ request request-sound))
 
-pub copied-size : (xs d : List ℕ) (j : ℕ) → j ≤ length xs → j ≤ length d → length (take j xs ++ drop j d) ≡ length d
-copied-size xs d j h g = simp (length-append, length-drop) (omega (arith, length-take-le j xs h))
-
-module _ (network request route before : List ℕ) where
-  -- a refusal of the records leaves the room as it is
-  pub records-refused : {v : Verdict} (r : Refusal) → v ≡ requestVerdict network request → v ≡ NotAccepted r → PricedRoute network request route before before (refuses (r .number) (r .place))
-  unfolding requestVerdict
-  records-refused r is told =
-      record {
-        meetings = [];
-        pricing = refused r (front-refused (recordChecks network request) _ r (sym is ∙ told)) refl refl;
-        written = refl;
-      }
-
-  module _ (accepted : requestVerdict network request ≡ Accepted) {count : ℕ} (reads-count : count ≡ riderCountOf (requestValue request)) where
-    past-records : firstOf (priceChecks network request route (length before)) ≡ firstOf (check 31 0 (ltb (length before) count) ∷ routeChecks network (requestValue request) route)
+  module _ (route : List ℕ) (c : Check) where
+    pub records-refused : (r : Refusal) → read .verdict ≡ NotAccepted r → PricedBehind network request route c (refuses (r .number) (r .place)) []
     unfolding requestVerdict
-    past-records = rw reads-count (front-passed (recordChecks network request) _ accepted)
+    records-refused r told =
+        refused r (front-refused (recordChecks network request) _ r (sym (request-verdict network request is) ∙ told)) refl refl
 
-    pub refused-31 : length before < count → PricedRoute network request route before before (refuses 31 0)
-    refused-31 short =
-        record {
-          meetings = [];
-          pricing = refused (refuse 31 0) (past-records ∙ given 31 0 _ (lt-ltb _ _ short)) refl refl;
-          written = refl;
-        }
+    module _ (accepted : read .verdict ≡ Accepted) where
+      past-records : firstOf (recordChecks network request ++ c ∷ routeChecks network (requestValue request) route)
+          ≡ firstOf (c ∷ routeChecks network (requestValue request) route)
+      unfolding requestVerdict
+      past-records = front-passed (recordChecks network request) _ (request-accepted network request is accepted)
 
-    pub route-priced : {answer : Outcome} {meetings after : List ℕ} → count ≤ length before → Pricing (firstOf (routeChecks network (requestValue request) route)) network (requestValue request) route answer meetings → Written meetings before after → PricedRoute network request route before after answer
-    route-priced {meetings = meetings} enough pricing written =
-        record {
-          meetings = meetings;
-          pricing = rw (past-records ∙ passed 31 0 _ (le-ltb _ _ enough)) pricing;
-          written = written;
-        }
+      pub check-refused : c .applies ≡ true → PricedBehind network request route c (refuses (c .number) (c .place)) []
+      check-refused e = refused (refuse (c .number) (c .place)) (past-records ∙ given _ _ _ e) refl refl
 
--- a price comes with as many meeting positions as there are riders
-pub meeting-count : {v : Verdict} {network : List ℕ} {q : Request} {route : List ℕ} {answer : Outcome} {meetings : List ℕ} {values : List ℕ} → Pricing v network q route answer meetings → answer ≡ gives values → length meetings ≡ riderCountOf q
-meeting-count (refused r is told none) e = clash (cc)
-meeting-count (stranded j is h lost first told none) e = clash (cc)
-meeting-count (priced p is so size told) e = size
+      pub check-passed : {answer : Outcome} {meetings : List ℕ} → c .applies ≡ false
+          → Pricing (firstOf (routeChecks network (read .request) route)) network (read .request) route answer meetings
+          → PricedBehind network request route c answer meetings
+      check-passed e pricing = rw (past-records ∙ passed _ _ _ e) (rw (request-value network request is accepted) at pricing)
+
+-- The meeting positions of a price, written one by one, stand at the start of the room.
+pub meetings-written : {v : Verdict} {network : List ℕ} {q : Request} {route : List ℕ} {price : ℕ} (positions : List ℕ) {before after : List ℕ}
+    → Pricing v network q route (gives (price ∷ [])) (take (riderCountOf q) positions)
+    → WrittenTo (λ j. getD positions j 0) (riderCountOf q) before after
+    → Written (take (riderCountOf q) positions) before after
+meetings-written positions (refused r is told none) written = clash (cc)
+meetings-written positions (stranded j is h lost first told none) written = clash (cc)
+meetings-written {q = q} positions (priced p is so size told) written =
+    written-all (take (riderCountOf q) positions) written size (λ j h. sym (getD-take (riderCountOf q) positions j 0 h))

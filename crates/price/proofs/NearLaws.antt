@@ -1,23 +1,25 @@
--- The nearest position, one position after the other.
-use Prim.Native.Nat.{ℕ, zero, suc, _+_, _≤_, _<_}
+-- The nearest position, one position after the other, and what it is to the rider.
+use Prim.Native.Nat.{ℕ, _+_, _≤_, _<_}
 use native.Mathlib.Omega.{arith}
-use native.Mathlib.Numerals.{add-one}
-use native.Mathlib.Decide.{decLe}
-use mathlib.Core.Path.{_≡_, refl, sym, _∙_}
+use mathlib.Core.Path.{_≡_, refl}
+use mathlib.Core.Logic.{_≢_, inl}
 use mathlib.Core.Bool.{Bool, true, false, cond}
 use mathlib.Core.List.{List}
-use lib.ListN.{length, getD}
 use lib.Dec.{ltb}
+use borrow.Author.Count.{below-more}
 use borrow.Author.Tests.{ltb-true, ltb-false}
-use Rattle.rules.specs.Network.{nodeCount, linkStart, to}
-use Rattle.rules.specs.Walks.{HoldsDistance}
-use Rattle.rules.specs.Routes.{nodeAt}
-use Rattle.rules.proofs.WalkLaws.{holds-distance-unique}
-use Rattle.price.specs.Near.{RouteFrom, NearestPosition, Sofar, distanceAt, closerOf}
+use Rattle.rules.specs.Network.{nodeCount}
+use Rattle.rules.specs.Walks.{noDistance}
+use Rattle.rules.specs.Routes.{nodeAt, RiderWalks, Meeting, Stranded}
+use Rattle.rules.specs.declared.Request.{Request}
+use Rattle.rules.proofs.RiderLaws.{rider-holds-unique, held-walks}
+use Rattle.rules.proofs.RouteLaws.{way-known, node-below}
+use Rattle.finish.proofs.Bounds.{rider-bounded}
+use Rattle.price.specs.Sound.{SoundRoute}
+use Rattle.price.specs.Near.{Sofar, Nearest, closerOf}
 use Rattle.price.specs.declared.riders.Spot.{Spot}
-use Rattle.price.proofs.RouteLaws.{node-next}
 
-pub sofar-first : (value : ℕ → ℕ) {d : ℕ} → d ≡ value 0 → Sofar value 0 (record { position = 0; distance = d })
+pub sofar-first : (value : ℕ → ℕ) {d : ℕ} → d ≡ value 0 → Sofar value 1 (record { position = 0; distance = d })
 sofar-first value e =
     record {
       within = omega arith;
@@ -26,58 +28,52 @@ sofar-first value e =
       earliest = λ other h. absurd (omega arith);
     }
 
-pub sofar-more : (value : ℕ → ℕ) (i : ℕ) (spot : Spot) {d : ℕ} → Sofar value i spot → d ≡ value (i + 1) → Sofar value (i + 1) (closerOf spot (i + 1) d)
-sofar-more value i spot {d} so e = go (ltb d (spot .distance)) refl
+pub sofar-more : (value : ℕ → ℕ) (count : ℕ) (spot : Spot) {d : ℕ} → Sofar value count spot → d ≡ value count
+    → Sofar value (count + 1) (closerOf spot count d)
+sofar-more value count spot {d} so e = go (ltb d (spot .distance)) refl
   where
-    -- the positions up to i + 1 are those up to i, and i + 1
-    up-to : (x : ℕ) → ((other : ℕ) → other ≤ i → x ≤ value other) → x ≤ value (i + 1) → (other : ℕ) → other ≤ i + 1 → x ≤ value other
-    up-to x below here other h = elim (decLe other i) [
-      | yes g ↦ below other g
-      | no g ↦ (let z : other ≡ i + 1 = omega arith in rw z here)
-    ]
-
-    go : (b : Bool) → ltb d (spot .distance) ≡ b → Sofar value (i + 1) (cond b (record { position = i + 1; distance = d }) spot)
+    go : (b : Bool) → ltb d (spot .distance) ≡ b
+        → Sofar value (count + 1) (cond b (record { position = count; distance = d }) spot)
     go true t =
         let nearer = ltb-true d (spot .distance) t in
         record {
           within = omega arith;
           stands = e;
-          least = up-to d (λ other h. omega (arith, so .least other h)) (omega arith);
-          earliest = λ other h. omega (arith, so .least other (omega arith));
+          least = below-more (λ (other : ℕ). d ≤ value other) count (λ other h. omega (arith, so .least other h)) (omega arith);
+          earliest = λ other h. omega (arith, so .least other h);
         }
     go false t =
         let farther = ltb-false d (spot .distance) t in
         record {
           within = omega (arith, so .within);
           stands = so .stands;
-          least = up-to (spot .distance) (so .least) (omega arith);
+          least = below-more (λ (other : ℕ). spot .distance ≤ value other) count (so .least) (omega arith);
           earliest = so .earliest;
         }
 
--- every position's node is one of the network
-pub node-below : {network : List ℕ} {source : ℕ} (route : List ℕ) → RouteFrom network source route → (position : ℕ) → position ≤ length route → nodeAt network source route position < nodeCount network
-unfolding nodeAt
-node-below route so zero h = so .starts
-node-below {network} {source} route so (suc i) h =
-    rw (← add-one i, node-next network source route i h) (so .sound .ends _ (so .known .links i h))
+-- Every position's node is one of the network.
+pub position-below : {network : List ℕ} {q : Request} {route : List ℕ} → SoundRoute network q route → (position : ℕ)
+    → nodeAt network (q .source) route position < nodeCount network
+position-below {route = route} may = node-below route (may .sound) (may .value .starts) (way-known (may .drives))
 
--- the nearest by a row of walking distances is the nearest
-pub near : {network : List ℕ} {rider source : ℕ} {route : List ℕ} (distances : List ℕ) {spot : Spot} → RouteFrom network source route → ((v : ℕ) → v < nodeCount network → HoldsDistance network rider v (getD distances v 0)) → Sofar (distanceAt network distances source route) (length route) spot → NearestPosition network rider source route (spot .position) (spot .distance)
-near {route = route} distances from holds so =
-    record {
-      within = so .within;
-      holds = rw (so .stands) (holds _ (node-below route from _ (so .within)));
-      least = λ other x h there. omega (arith, so .least other h, holds-distance-unique there (holds _ (node-below route from other h)));
-      earliest = λ other x h there. omega (arith, so .earliest other h, holds-distance-unique there (holds _ (node-below route from other (omega (arith, so .within)))));
-    }
+module _ {network : List ℕ} {q : Request} {j : ℕ} {route : List ℕ} {spot : Spot} (so : Nearest network q j route spot) where
+  -- A distance that rider j walks is what stands at the place.
+  placed : (position : ℕ) {d : ℕ} → RiderWalks network q j (nodeAt network (q .source) route position) d → so .place position ≡ d
+  placed position walks = rider-holds-unique (so .holds position) (inl walks)
 
--- link k of the route, and the node v that it ends at
-module _ {network : List ℕ} {source : ℕ} {route : List ℕ} (from : RouteFrom network source route) (i : ℕ) (h : i < length route) {k : ℕ} (reads-k : k ≡ getD route i 0) where
-  pub link-within : linkStart k + 8 ≤ length network
-  link-within = omega (arith, from .known .links i h, from .sound .whole)
+  -- The nearest position, where it can be walked to, is the meeting position.
+  pub near-meets : spot .distance ≢ noDistance → Meeting network q route j (spot .position) (spot .distance)
+  near-meets walkable =
+      record {
+        within = omega (arith, so .first .within);
+        walks = held-walks (rw (so .first .stands) (so .holds (spot .position))) walkable;
+        least = λ other e h walks. omega (arith, so .first .least other (omega arith), placed other walks);
+        earliest = λ other h walks. omega (arith, so .first .earliest other h, placed other walks);
+      }
 
-  pub end-is : {v : ℕ} → v ≡ to network k → v ≡ nodeAt network source route (i + 1)
-  end-is e = e ∙ rw reads-k (sym (node-next network source route i h))
-
-  pub end-below : {v : ℕ} → v ≡ to network k → v < nodeCount network
-  end-below e = rw (end-is e) (node-below route from (i + 1) (omega arith))
+  -- Where it cannot, none can.
+  pub near-stranded : SoundRoute network q route → spot .distance ≡ noDistance → Stranded network q route j
+  near-stranded may e reaches =
+      let at = reaches .position in
+      let far = rider-bounded (may .sound) (position-below may at) (reaches .walks) in
+      omega (arith, so .first .least at (omega (arith, reaches .within)), placed at (reaches .walks))

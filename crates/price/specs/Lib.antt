@@ -1,3 +1,4 @@
-pub mod Known
+-- What the functions of pricing promise one another.
+pub mod Sound
 pub mod Near
 pub mod Meetings

@@ -5,12 +5,14 @@ mod route;
 
 use records::read_request;
 pub use riders::RoutePrice;
+use rules::MOST_RIDERS;
 use rules::Priced;
 use rules::Refusal;
 use rules::Verdict;
 ghost use Prim.Native.Nat.{_≤_};
-ghost use lib.ListN.{length, take};
-ghost use Rattle.rules.specs.Rooms.{Written};
+ghost use lib.ListN.{length, getD};
+ghost use Rattle.rules.specs.Limits.{mostRiders};
+ghost use Rattle.rules.specs.Rooms.{WrittenTo};
 ghost use Rattle.rules.specs.Answers.{pricedOutcome, PricedRoute};
 
 // Prices a route of link numbers and writes each rider's meeting position into `meeting`, or refuses and leaves it
@@ -42,9 +44,9 @@ pub fn price(network: &[u8], request: &[u8], route: &[u16], meeting: &mut [u16])
 }
 
 // Writes the first `count` positions at the start of the room.
-fn write(meeting: &mut [u16], positions: [u16; 7], count: usize)
-    requires { ⌜ (count ≤ 7) × (count ≤ length positions) × (count ≤ length (now meeting)) ⌝ }
-    ensures { λ _. ⌜ Written (take count positions) (now (meeting .entry)) (now (meeting .exit)) ⌝ }
+fn write(meeting: &mut [u16], positions: [u16; MOST_RIDERS], count: usize)
+    requires { ⌜ (count ≤ mostRiders) × (count ≤ length (now meeting)) ⌝ }
+    ensures { λ _. ⌜ WrittenTo (λ j. getD positions j 0) count (now (meeting .entry)) (now (meeting .exit)) ⌝ }
 {
     let mut j = 0;
     while j < count {

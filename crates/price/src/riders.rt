@@ -1,22 +1,25 @@
 // Riders: which position of a route is nearest to each of them.
+use crate::route::driving_cost;
 use crate::route::link_at;
 use records::inner::to;
+use rules::MOST_NODES;
+use rules::MOST_RIDERS;
 use rules::NO_DISTANCE;
 use rules::Priced;
 use rules::Refusal;
 use rules::Request;
 use rules::Verdict;
 use walk::inner::walk_from;
-ghost use Prim.Native.Nat.{_<_, _≤_};
+ghost use Prim.Native.Nat.{_+_, _<_, _≤_};
 ghost use mathlib.Core.Path.{_≡_};
 ghost use lib.ListN.{length};
 ghost use Rattle.rules.specs.Network.{nodeCount};
-ghost use Rattle.rules.specs.Answers.{pricedOutcome, Pricing};
 ghost use Rattle.rules.specs.Request.{riderCountOf};
-ghost use Rattle.price.specs.Meetings.{Driveable, meetingsOf};
-ghost use Rattle.price.specs.Near.{RouteFrom, NearestPosition, Sofar, distanceAt, closerOf};
+ghost use Rattle.price.specs.Sound.{SoundRoute};
+ghost use Rattle.price.specs.Near.{Sofar, Nearest, distanceAt, closerOf};
+ghost use Rattle.price.specs.Meetings.{Prices};
 
-// A position of a route and its walking distance from a rider.
+// A position of a route and a rider's walking distance to it.
 pub struct Spot {
     pub position: usize,
     pub distance: u32,
@@ -25,23 +28,21 @@ pub struct Spot {
 // A price or its refusal, and beside a price the riders' meeting positions.
 pub struct RoutePrice {
     pub answer: Priced,
-    pub meetings: [u16; 7],
+    pub meetings: [u16; MOST_RIDERS],
 }
 
-// Prices a route that costs `driving` to drive: the price with the meeting positions, or refusal 37 at the lowest rider
-// who can walk to no position.
-pub fn meet_riders(network: &[u8], q: Request, route: &[u16], driving: u64) -> RoutePrice
-    requires { ⌜ Driveable (now network) q (now route) driving ⌝ }
-    ensures { λ r. ⌜ Pricing Verdict.Accepted (now (network .entry)) q (now (route .entry)) (pricedOutcome (r .answer)) (meetingsOf (r .answer) (r .meetings) (riderCountOf q)) ⌝ }
+// Prices a sound route: the price with the meeting positions, or refusal 37 at the lowest rider who can walk to no
+// position.
+pub fn meet_riders(network: &[u8], q: Request, route: &[u16]) -> RoutePrice
+    requires { ⌜ SoundRoute (now network) q (now route) ⌝ }
+    ensures { λ r. ⌜ Prices Verdict.Accepted (now (network .entry)) q (now (route .entry)) r ⌝ }
 {
-    let nodes = q.nodes;
     let weights = q.weights;
-    let mut meetings = [0u16; 7];
-    let weight = q.bus_weight;
-    let mut price = weight * driving;
+    let mut meetings = [0u16; MOST_RIDERS];
+    let mut price = driving_cost(network, q, route);
     let mut j = 0;
     while j < q.rider_count {
-        let spot = nearest(network, nodes[j], q.source, route);
+        let spot = nearest(network, q, j, route);
         let distance = spot.distance;
         if distance == NO_DISTANCE {
             return RoutePrice {
@@ -62,22 +63,23 @@ pub fn meet_riders(network: &[u8], q: Request, route: &[u16], driving: u64) -> R
     }
 }
 
-// The earliest position with the least walking distance from the node `rider`; its distance is 4,294,967,295 where no
-// position can be walked to.
-pub fn nearest(network: &[u8], rider: usize, source: usize, route: &[u16]) -> Spot
-    requires { ⌜ (rider < nodeCount (now network)) × RouteFrom (now network) source (now route) ⌝ }
-    ensures { λ r. ⌜ NearestPosition (now (network .entry)) rider source (now (route .entry)) (r .position) (r .distance) ⌝ }
+// The earliest position to which rider j walks least; its distance is none where rider j can walk to no position.
+pub fn nearest(network: &[u8], q: Request, j: usize, route: &[u16]) -> Spot
+    requires { ⌜ (j < riderCountOf q) × SoundRoute (now network) q (now route) ⌝ }
+    ensures { λ r. ⌜ Nearest (now (network .entry)) q j (now (route .entry)) r ⌝ }
 {
-    let mut distances = [0u32; 512];
-    walk_from(network, rider, &mut distances);
-    nearest_by(network, &distances, source, route)
+    let nodes = q.nodes;
+    let mut distances = [0u32; MOST_NODES];
+    walk_from(network, nodes[j], &mut distances);
+    nearest_by(network, &distances, q, route)
 }
 
 // The earliest position with the least of the distances that stand at its node's place.
-fn nearest_by(network: &[u8], distances: &[u32], source: usize, route: &[u16]) -> Spot
-    requires { ⌜ (nodeCount (now network) ≤ length (now distances)) × RouteFrom (now network) source (now route) ⌝ }
-    ensures { λ r. ⌜ Sofar (distanceAt (now (network .entry)) (now (distances .entry)) source (now (route .entry))) (length (now (route .entry))) r ⌝ }
+fn nearest_by(network: &[u8], distances: &[u32], q: Request, route: &[u16]) -> Spot
+    requires { ⌜ (nodeCount (now network) ≤ length (now distances)) × SoundRoute (now network) q (now route) ⌝ }
+    ensures { λ r. ⌜ Sofar (distanceAt (now (network .entry)) (now (distances .entry)) (q .source) (now (route .entry))) (length (now (route .entry)) + 1) r ⌝ }
 {
+    let source = q.source;
     let mut spot = Spot {
         position: 0,
         distance: distances[source],

@@ -8,13 +8,14 @@ use rules::LONGEST_ROUTE;
 use rules::Request;
 use rules::Verdict;
 use rules::refused;
-ghost use Prim.Native.Nat.{_<_, _≤_};
+ghost use Prim.Native.Nat.{_*_, _<_};
 ghost use mathlib.Core.Path.{_≡_};
 ghost use lib.ListN.{length, getD};
 ghost use Rattle.rules.specs.Checks.{firstOf};
 ghost use Rattle.rules.specs.Network.{SoundNetwork};
+ghost use Rattle.rules.specs.Request.{busWeightOf};
 ghost use Rattle.rules.specs.Routes.{drivenLinkChecks, routeChecks};
-ghost use Rattle.price.specs.Known.{KnownRoute, drivingOf};
+ghost use Rattle.price.specs.Sound.{SoundRoute, drivingOf};
 
 // The link number at place i of the route.
 pub fn link_at(route: &[u16], i: usize) -> usize
@@ -68,10 +69,10 @@ fn link_verdict(network: &[u8], node: usize, k: usize, i: usize) -> Verdict
     Verdict::Accepted
 }
 
-// The sum of the route's drive costs.
-pub fn driving_of(network: &[u8], route: &[u16]) -> u64
-    requires { ⌜ SoundNetwork (now network) × KnownRoute (now network) (now route) ⌝ }
-    ensures { λ r. ⌜ (r ≡ drivingOf (now (network .entry)) (now (route .entry))) × (r ≤ 268365825) ⌝ }
+// What driving the route costs.
+pub fn driving_cost(network: &[u8], q: Request, route: &[u16]) -> u64
+    requires { ⌜ SoundRoute (now network) q (now route) ⌝ }
+    ensures { λ r. ⌜ r ≡ busWeightOf q * drivingOf (now (network .entry)) (now (route .entry)) ⌝ }
 {
     let mut driving = 0;
     let mut i = 0;
@@ -79,5 +80,5 @@ pub fn driving_of(network: &[u8], route: &[u16]) -> u64
         driving += drive(network, link_at(route, i));
         i += 1;
     }
-    driving
+    q.bus_weight * driving
 }

@@ -1,4 +1,3 @@
--- Laws of a route as bytes, and of the tablet's answers.
+-- Laws of a route as bytes, and of the tablet's number.
 pub mod RouteLaws
-pub mod AnswerLaws
 pub mod Promises

@@ -4,13 +4,15 @@ mod route;
 use price::inner::price_route;
 use records::read_request;
 use route::decode;
+use rules::FIRST_REFUSAL;
 use rules::LONGEST_ROUTE;
 use rules::Priced;
 use rules::Refusal;
 use rules::Verdict;
 ghost use Rattle.rules.specs.Answers.{pricedOutcome, Tablet, TabletPriced};
 
-// Prices a route whose link numbers come as bytes, the high one first. From 2^63 on, the answer is a refusal's number.
+// Prices a route whose link numbers come as bytes, the high one first. From FIRST_REFUSAL on, the answer is a refusal's
+// number.
 #[no_mangle]
 pub extern "C" fn tivelgor_tablet_price(network: &[u8], request: &[u8], route: &[u8]) -> u64
     ensures { λ r. ⌜ Tablet (now (network .entry)) (now (request .entry)) (now (route .entry)) r ⌝ }
@@ -21,7 +23,7 @@ pub extern "C" fn tivelgor_tablet_price(network: &[u8], request: &[u8], route: &
             // An answer is one of the two, so this is never taken.
             return 0;
         };
-        return 9223372036854775808 + r.number as u64;
+        return FIRST_REFUSAL + r.number as u64;
     };
     price
 }

@@ -1,52 +1,66 @@
-use lib.ListN.{length-take}
-use native.Mathlib.Omega.{arith}
-use mathlib.Core.Path.{refl, ap}
-use Rattle.rules.specs.Answers.{pricedOutcome}
-use Rattle.rules.specs.declared.Request.{Request}
-use Rattle.rules.proofs.SoundRequestLaws.{records-sound, value-sound}
-use Rattle.rules.specs.Request.{riderCountOf}
-use Rattle.records.proofs.RequestLaws.{request-verdict, request-accepted, request-value}
-use Rattle.price.proofs.EntryLaws.{records-refused, refused-31, route-priced, meeting-count}
+-- The records' refusals, 31, and then the route's answer, whose meeting positions are written beside a price.
+use mathlib.Core.Path.{refl}
 use borrow.Author.Needs.{needs}
+use borrow.Author.Tests.{lt-ltb, le-ltb}
+use Rattle.records.proofs.RequestLaws.{request-value}
+use Rattle.price.proofs.EntryLaws.{records-read, records-refused, check-refused, check-passed, meetings-written}
 use Rattle.price.proofs.price.Statement.{statement}
 use Rattle.price.proofs.price.Tie as tie
 
 returns : tie.Need-returns
-returns c = records-refused _ _ _ _ _ (request-verdict _ _ (c .before .before .before .read-request .ensures)) (c .before .verdict .given .1)
+returns c =
+    record {
+      meetings = _;
+      pricing = records-refused _ _ (c .before .before .before .read-request .ensures) _ _ _ (c .before .verdict .given .1);
+      written = refl;
+    }
 
 returns-2 : tie.Need-returns-2
-returns-2 c = refused-31 _ _ _ _ (request-accepted _ _ (c .before .before .before .before .read-request .ensures) (c .before .before .enum-told .given .1)) (ap (λ (q : Request). riderCountOf q) (request-value _ _ (c .before .before .before .before .read-request .ensures) (c .before .before .enum-told .given .1))) (c .if1 .taken)
+returns-2 c =
+    let read = c .before .before .before .before .read-request .ensures in
+    let accepted = c .before .before .enum-told .given .1 in
+    record {
+      meetings = _;
+      pricing = check-refused _ _ read _ _ accepted (rw (← request-value _ _ read accepted) (lt-ltb _ _ (c .if1 .taken)));
+      written = refl;
+    }
 
 price-route-requires : tie.Need-price-route-requires
-price-route-requires c κs =
-    let (network, request) = records-sound _ _ (request-accepted _ _ (c .before .before .before .before .read-request .ensures) (c .before .before .enum-told .given .1)) in
-    (network, rw (request-value _ _ (c .before .before .before .before .read-request .ensures) (c .before .before .enum-told .given .1)) (value-sound _ _ request))
+price-route-requires c κs = records-read _ _ (c .before .before .before .before .read-request .ensures) (c .before .before .enum-told .given .1)
 
 returns-3 : tie.Need-returns-3
 returns-3 c =
     let told = c .enum-told3 .given .1 in
-    let value = (request-value _ _ (c .before .before .before .before .before .before .before .read-request .ensures) (c .before .before .before .before .before .enum-told .given .1)) in
+    let at-q = c .before .before .before .before in
+    let accepted = at-q .before .enum-told .given .1 in
+    let read = at-q .before .before .before .read-request .ensures in
     rw told
-    (route-priced _ _ _ _ (request-accepted _ _ (c .before .before .before .before .before .before .before .read-request .ensures) (c .before .before .before .before .before .enum-told .given .1)) (ap (λ (q : Request). riderCountOf q) (request-value _ _ (c .before .before .before .before .before .before .before .read-request .ensures) (c .before .before .before .before .before .enum-told .given .1))) (c .before .before .before .if1 .left)
-    (rw (told, value) at (c .before .before .price-route .ensures)) refl)
+    (record {
+      meetings = _;
+      pricing = check-passed _ _ read _ _ accepted (rw (← request-value _ _ read accepted) (le-ltb _ _ (c .before .before .before .if1 .left)))
+          (rw told at (c .before .before .price-route .ensures));
+      written = refl;
+    })
 
 write-requires : tie.Need-write-requires
 write-requires c κs =
-    let (network, request) = records-sound _ _ (request-accepted _ _ (c .before .before .before .before .before .before .before .before .before .read-request .ensures) (c .before .before .before .before .before .before .before .enum-told .given .1)) in
-    let told = c .before .before .enum-told2 .given .1 in
-    let few = rw (← (request-value _ _ (c .before .before .before .before .before .before .before .before .before .read-request .ensures) (c .before .before .before .before .before .before .before .enum-told .given .1))) at (value-sound _ _ request .riders) in (
-      few,
-      omega (arith, simp length-take at (rw told at (meeting-count (c .before .before .before .before .price-route .ensures) (ap pricedOutcome told)))),
-      c .before .before .before .before .before .if1 .left,
-    )
+    let at-if = c .before .before .before .before .before in
+    let accepted = at-if .before .before .enum-told .given .1 in
+    (records-read _ _ (at-if .before .before .before .before .read-request .ensures) accepted .1 .riders, at-if .if1 .left)
 
 returns-4 : tie.Need-returns-4
 returns-4 c =
+    let at-priced = c .before .before .before .before .before .before .before in
     let told = c .before .before .before .before .before .enum-told2 .given .1 in
-    let value = (request-value _ _ (c .before .before .before .before .before .before .before .before .before .before .before .before .read-request .ensures) (c .before .before .before .before .before .before .before .before .before .before .enum-told .given .1)) in
+    let accepted = at-priced .before .before .before .enum-told .given .1 in
+    let read = at-priced .before .before .before .before .before .read-request .ensures in
+    let pricing = rw told at (at-priced .price-route .ensures) in
     rw told
-    (route-priced _ _ _ _ (request-accepted _ _ (c .before .before .before .before .before .before .before .before .before .before .before .before .read-request .ensures) (c .before .before .before .before .before .before .before .before .before .before .enum-told .given .1)) (ap (λ (q : Request). riderCountOf q) (request-value _ _ (c .before .before .before .before .before .before .before .before .before .before .before .before .read-request .ensures) (c .before .before .before .before .before .before .before .before .before .before .enum-told .given .1))) (c .before .before .before .before .before .before .before .before .if1 .left)
-    (rw (told, value) at (c .before .before .before .before .before .before .before .price-route .ensures)) (rw value at (c .before .before .write .ensures)))
+    (record {
+      meetings = _;
+      pricing = check-passed _ _ read _ _ accepted (rw (← request-value _ _ read accepted) (le-ltb _ _ (at-priced .before .if1 .left))) pricing;
+      written = meetings-written _ pricing (c .before .before .write .ensures);
+    })
 
 pub price-spec : {M : Type 1} → statement M
 price-spec =

@@ -1,38 +1,36 @@
-use mathlib.Core.Path.{ap, _∙_}
-use lib.ListN.{length}
-use lib.Seq.{length-take-le}
-use native.Mathlib.Omega.{arith}
+-- Invariant: the first j positions are written, and the later places are kept. Each turn leaves one position less to write.
 use Prim.Native.Nat.{_-_, _≤_}
 use native.Mathlib.Omega.{arith}
 use mathlib.Core.Path.{_≡_, refl}
-use mathlib.Core.List.{_++_}
-use lib.ListN.{take, drop}
-use Rattle.price.proofs.EntryLaws.{copy-more, copied-size}
+use lib.ListN.{getD}
+use borrow.Author.Needs.{needs}
+use Rattle.rules.specs.Rooms.{WrittenTo}
+use Rattle.rules.proofs.WritingLaws.{written-none, written-more}
 use Rattle.price.proofs.write.Statement.{statement}
 use Rattle.price.proofs.write.Tie as tie
 
 abbrev Inv-loop : tie.InvT-loop
-Inv-loop meeting₀ count positions j₀ meeting j = (j ≤ count) × (meeting ≡ take j positions ++ drop j meeting₀)
+Inv-loop meeting₀ count positions j₀ meeting j = (j ≤ count) × WrittenTo (λ i. getD positions i 0) j meeting₀ meeting
 
 abbrev μ-loop : tie.MeasureT-loop
 μ-loop meeting₀ count positions j₀ meeting j = count - j
 
 loop-holds : tie.Need-loop-holds Inv-loop μ-loop
-loop-holds c = (omega arith, refl)
+loop-holds c = (omega arith, written-none)
 
 slice-write-meeting : tie.Need-slice-write-meeting Inv-loop μ-loop
-slice-write-meeting c = omega (arith, ap length (c .before .loop .inv .1) ∙ copied-size _ _ (c .before .loop .j) (omega arith) (omega arith))
+slice-write-meeting c = omega (arith, c .before .loop .inv .1 .kept .size)
 
 loop-again : tie.Need-loop-again Inv-loop μ-loop
-loop-again c = (omega arith, rw (c .before .loop .inv .1) (copy-more _ _ (c .before .loop .j) (omega arith) (omega arith)))
+loop-again c = (omega arith, written-more (c .before .loop .inv .1) (omega arith) refl)
 
 same-length : tie.Need-same-length Inv-loop μ-loop
-same-length c = ap length (c .before .loop .inv .1) ∙ copied-size _ _ (c .before .loop .j) (omega arith) (omega arith)
+same-length c = c .before .loop .inv .1 .kept .size
 
 returns : tie.Need-returns Inv-loop μ-loop
 returns c =
     let all : c .before .loop .j ≡ c .before .before .args .count = omega arith in
-    rw (length-take-le (c .before .before .args .count) (c .before .before .args .t2) (c .before .before .pre .1)) (rw all at (c .before .loop .inv .1))
+    rw all at (c .before .loop .inv .1)
 
 pub write-spec : {M : Type 1} → statement M
 write-spec =
@@ -41,12 +39,12 @@ write-spec =
     Inv-loop
     μ-loop
     loop-holds
-    (λ c. omega arith)
-    (λ c. omega arith)
-    (λ c. omega arith)
+    (λ c. search needs)
+    (λ c. search needs)
+    (λ c. search needs)
     slice-write-meeting
-    (λ c. omega arith)
-    (λ c. omega arith)
+    (λ c. search needs)
+    (λ c. search needs)
     loop-again
     same-length
     returns)

@@ -1,34 +1,52 @@
-use native.Mathlib.Omega.{arith}
-use native.Mathlib.Omega.{arith}
+-- The records' refusals, 38, 32, and then the route's answer.
 use native.Mathlib.Nat.{sub-zero}
 use mathlib.Core.Path.{refl}
-use Rattle.rules.proofs.SoundRequestLaws.{records-sound, value-sound}
-use Rattle.records.proofs.RequestLaws.{request-verdict, request-accepted, request-value}
-use Rattle.tablet.proofs.RouteLaws.{decoded-route}
-use Rattle.tablet.proofs.AnswerLaws.{records-refused, refused-38, refused-32, priced-route}
 use borrow.Author.Needs.{needs}
+use borrow.Author.Tests.{eq-eqb, ne-eqb}
+use Rattle.rules.specs.Checks.{refuse}
+use Rattle.rules.specs.Answers.{refused}
+use Rattle.price.proofs.RouteLaws.{route-32}
+use Rattle.price.proofs.EntryLaws.{records-read, records-refused, check-refused, check-passed}
+use Rattle.tablet.proofs.RouteLaws.{route-size, decoded-route}
 use Rattle.tablet.proofs.tablet_answer.Statement.{statement}
 use Rattle.tablet.proofs.tablet_answer.Tie as tie
 
 returns : tie.Need-returns
-returns c = records-refused _ _ _ _ (request-verdict _ _ (c .before .before .before .read-request .ensures)) (c .before .verdict .given .1)
+returns c =
+    record {
+      meetings = _;
+      pricing = records-refused _ _ (c .before .before .before .read-request .ensures) _ _ _ (c .before .verdict .given .1);
+    }
 
 returns-2 : tie.Need-returns-2
-returns-2 c = refused-38 _ _ _ (request-accepted _ _ (c .before .before .before .read-request .ensures) (c .before .enum-told .given .1)) (c .if1 .taken)
+returns-2 c =
+    let read = c .before .before .before .read-request .ensures in
+    record { meetings = _; pricing = check-refused _ _ read _ _ (c .before .enum-told .given .1) (simp (ne-eqb _ _ (c .if1 .taken))) }
 
 returns-3 : tie.Need-returns-3
-returns-3 c = refused-32 _ _ _ (request-accepted _ _ (c .before .before .before .before .read-request .ensures) (c .before .before .enum-told .given .1)) (c .before .if1 .left) (c .if2 .taken)
+returns-3 c =
+    let read = c .before .before .before .before .read-request .ensures in
+    record {
+      meetings = _;
+      pricing = check-passed _ _ read _ _ (c .before .before .enum-told .given .1) (simp (eq-eqb _ _ (c .before .if1 .left)))
+          (refused (refuse 32 0) (route-32 _ _ _ (rw route-size (c .if2 .taken))) refl refl);
+    }
 
 price-route-requires : tie.Need-price-route-requires
 price-route-requires c κs =
-    let (network, request) = records-sound _ _ (request-accepted _ _ (c .before .before .before .before .before .before .before .before .before .read-request .ensures) (c .before .before .before .before .before .before .before .enum-told .given .1)) in
-    (network, rw (request-value _ _ (c .before .before .before .before .before .before .before .before .before .read-request .ensures) (c .before .before .before .before .before .before .before .enum-told .given .1)) (value-sound _ _ request))
+    let told = c .before .before .before .before .before .before .before in
+    records-read _ _ (told .before .before .read-request .ensures) (told .enum-told .given .1)
 
 returns-4 : tie.Need-returns-4
 returns-4 c =
-    priced-route _ _ _ (request-accepted _ _ (c .before .before .before .before .before .before .before .before .before .before .read-request .ensures) (c .before .before .before .before .before .before .before .before .enum-told .given .1)) (c .before .before .before .before .before .before .before .if1 .left)
-    (rw sub-zero (decoded-route (c .before .before .before .before .decode .ensures) (omega arith) refl))
-    (rw (request-value _ _ (c .before .before .before .before .before .before .before .before .before .before .read-request .ensures) (c .before .before .before .before .before .before .before .before .enum-told .given .1)) at (c .price-route .ensures))
+    let told = c .before .before .before .before .before .before .before .before in
+    let at-if = c .before .before .before .before .before .before .before in
+    record {
+      meetings = _;
+      pricing = check-passed _ _ (told .before .before .read-request .ensures) _ _ (told .enum-told .given .1)
+          (simp (eq-eqb _ _ (at-if .if1 .left)))
+          (rw (sub-zero, decoded-route _ (c .before .before .before .before .decode .ensures)) at (c .price-route .ensures));
+    }
 
 pub tablet-answer-spec : {M : Type 1} → statement M
 tablet-answer-spec =

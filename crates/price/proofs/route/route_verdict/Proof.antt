@@ -1,16 +1,19 @@
-use borrow.Author.Needs.{needs}
+-- Invariant: the first i links have passed their checks, and lead to `node`. Each turn leaves one link less to go.
 use Prim.Native.Nat.{_-_}
 use native.Mathlib.Omega.{arith}
 use mathlib.Core.Path.{_≡_, refl, sym, _∙_}
 use lib.ListN.{length}
+use borrow.Author.Needs.{needs}
+use Rattle.rules.specs.Checks.{firstOf}
 use Rattle.rules.specs.Routes.{nodeAt, routeLinkChecks}
 use Rattle.rules.proofs.Order.{Passed, passed-none, passed-more, passed-until, passed-all}
-use Rattle.price.proofs.RouteLaws.{node-next, driven, route-32, route-link, route-36, route-driven}
+use Rattle.price.proofs.RouteLaws.{node-next, driven-link, route-32, route-link, route-36, route-driven}
 use Rattle.price.proofs.route.route_verdict.Statement.{statement}
 use Rattle.price.proofs.route.route_verdict.Tie as tie
 
 abbrev Inv-loop : tie.InvT-loop
-Inv-loop network q route node₀ i₀ node i = Passed (routeLinkChecks network q route) (length route) i × (node ≡ nodeAt network (q .source) route i)
+Inv-loop network q route node₀ i₀ node i =
+    Passed (routeLinkChecks network q route) (length route) i × (node ≡ nodeAt network (q .source) route i)
 
 abbrev μ-loop : tie.MeasureT-loop
 μ-loop network q route node₀ i₀ node i = length route - i
@@ -22,41 +25,56 @@ loop-holds : tie.Need-loop-holds Inv-loop μ-loop
 unfolding nodeAt
 loop-holds c = (passed-none _ _, refl)
 
+-- The verdict on the link is that on place i.
+checked : (c : tie.After-link-verdict Inv-loop μ-loop) →
+    let loop = c .before .before .before in
+    let entry = loop .before .before .before .before in
+    c .link-verdict .result ≡ firstOf (routeLinkChecks (entry .args .network .now) (entry .args .q) (entry .args .route .now) (loop .loop .i))
+checked c = rw (← c .before .before .before .loop .inv .1, ← c .before .link-at .ensures) (c .link-verdict .ensures)
+
 returns-2 : tie.Need-returns-2 Inv-loop μ-loop
 returns-2 c =
-    let at = c .before .before .before .before .before .loop in
-    c .enum-told2 .given .1
+    let loop = c .before .before .before .before .before in
+    let told = c .enum-told2 .given .1 in
+    told
     ∙ sym
-    (route-link _ _ _ (c .before .before .before .before .before .before .if1 .left) (c .enum-told2 .given .0 .0)
-    (passed-until _ _ (at .i) (at .inv .0) _ (c .before .before .before .before .loop-test .taken)
-    (rw (c .before .before .before .link-at .ensures, at .inv .1) at (sym (c .before .before .link-verdict .ensures) ∙ c .enum-told2 .given .1))))
+    (route-link _ _ _ (loop .before .if1 .left) _
+    (passed-until _ _ (loop .loop .i) (loop .loop .inv .0) _ (c .before .before .before .before .loop-test .taken)
+    (sym (checked (c .before .before)) ∙ told)))
 
 to-requires : tie.Need-to-requires Inv-loop μ-loop
 to-requires c κs =
-    omega (arith, c .before .before .before .before .before .before .before .before .before .pre .whole, driven _ _ _ _ (sym (c .before .before .link-verdict .ensures) ∙ c .enum-told .given .1) .exists)
+    let entry = c .before .before .before .before .before .before .before .before .before in
+    omega (arith, entry .pre .whole, driven-link _ _ _ _ (sym (c .before .before .link-verdict .ensures) ∙ c .enum-told .given .1) .exists)
 
 loop-again : tie.Need-loop-again Inv-loop μ-loop
 loop-again c =
-    let at = c .before .before .before .before .before .before .loop in (
-      passed-more _ _ (at .i) (at .inv .0) (c .before .before .before .before .before .loop-test .taken)
-          (rw (c .before .before .before .before .link-at .ensures, at .inv .1) at (sym (c .before .before .before .link-verdict .ensures) ∙ c .before .enum-told .given .1)),
-      rw (c .to .ensures .value, c .before .before .before .before .link-at .ensures) (sym (node-next _ _ _ (at .i) (c .before .before .before .before .before .loop-test .taken))),
+    let loop = c .before .before .before .before .before .before in
+    let more = c .before .before .before .before .before .loop-test .taken in (
+      passed-more _ _ (loop .loop .i) (loop .loop .inv .0) more (sym (checked (c .before .before .before)) ∙ c .before .enum-told .given .1),
+      rw (c .to .ensures .value, c .before .before .before .before .link-at .ensures) (sym (node-next _ _ _ (loop .loop .i) more)),
     )
+
+-- All links have passed, and `node` is where they lead.
+passed : (c : tie.After-loop Inv-loop μ-loop) →
+    let entry = c .before .before .before .before .before in
+    c .before .loop .i ≡ length (entry .args .route .now)
+passed c = omega (arith, c .before .loop .inv .0 .within)
 
 returns-3 : tie.Need-returns-3 Inv-loop μ-loop
 returns-3 c =
-    let all : c .before .before .before .before .loop .i ≡ length (c .before .before .before .before .before .before .before .before .args .route .now) = omega (arith, c .before .before .before .before .loop .inv .0 .within) in
+    let loop = c .before .before .before .before in
     c .refused2 .ensures
     ∙ sym
-    (route-36 _ _ _ (c .before .before .before .before .before .if1 .left) (passed-all _ _ _ (c .before .before .before .before .loop .inv .0) (c .before .before .before .loop-test .left))
-    (rw all at (c .before .before .before .before .loop .inv .1)) (c .before .if2 .taken))
+    (route-36 _ _ _ (loop .before .if1 .left) (passed-all _ _ _ (loop .loop .inv .0) (c .before .before .before .loop-test .left))
+    (rw (passed (c .before .before .before)) at (loop .loop .inv .1)) (c .before .if2 .taken))
 
 returns-4 : tie.Need-returns-4 Inv-loop μ-loop
 returns-4 c =
-    let all : c .before .before .before .loop .i ≡ length (c .before .before .before .before .before .before .before .args .route .now) = omega (arith, c .before .before .before .loop .inv .0 .within) in
+    let loop = c .before .before .before in
     sym
-    (route-driven _ _ _ (c .before .before .before .before .if1 .left) (passed-all _ _ _ (c .before .before .before .loop .inv .0) (c .before .before .loop-test .left))
-    (rw all at (c .before .before .before .loop .inv .1)) (c .if2 .left))
+    (route-driven _ _ _ (loop .before .if1 .left) (passed-all _ _ _ (loop .loop .inv .0) (c .before .before .loop-test .left))
+    (rw (passed (c .before .before)) at (loop .loop .inv .1)) (c .if2 .left))
 
 pub route-verdict-spec : {M : Type 1} → statement M
 route-verdict-spec =

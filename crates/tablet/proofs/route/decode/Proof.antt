@@ -1,29 +1,30 @@
+-- Invariant: the first i links are written, and the later places are kept. Each turn leaves one link less to write.
+use Prim.Native.Nat.{_-_, _*_, _≤_}
+use native.Mathlib.Omega.{arith}
 use mathlib.Core.Path.{_≡_}
-use native.Mathlib.Omega.{arith}
-use Prim.Native.Nat.{_-_, _≤_}
-use native.Mathlib.Omega.{arith}
-use Rattle.tablet.specs.Answer.{Decoded}
-use Rattle.tablet.proofs.RouteLaws.{decoded-none, decoded-more}
+use Rattle.rules.specs.Numbers.{two}
+use Rattle.rules.specs.Rooms.{WrittenTo}
+use Rattle.rules.proofs.WritingLaws.{written-none, written-more}
 use Rattle.tablet.proofs.route.decode.Statement.{statement}
 use Rattle.tablet.proofs.route.decode.Tie as tie
 
 abbrev Inv-loop : tie.InvT-loop
-Inv-loop bytes links₀ count i₀ links i = (i ≤ count) × Decoded bytes links₀ i links
+Inv-loop bytes links₀ count i₀ links i = (i ≤ count) × WrittenTo (λ k. two bytes (2 * k)) i links₀ links
 
 abbrev μ-loop : tie.MeasureT-loop
 μ-loop bytes links₀ count i₀ links i = count - i
 
 loop-holds : tie.Need-loop-holds Inv-loop μ-loop
-loop-holds c = (omega arith, decoded-none _ _)
+loop-holds c = (omega arith, written-none)
 
 slice-write-links : tie.Need-slice-write-links Inv-loop μ-loop
-slice-write-links c = omega (arith, c .before .before .loop .inv .1 .size)
+slice-write-links c = omega (arith, c .before .before .loop .inv .1 .kept .size)
 
 loop-again : tie.Need-loop-again Inv-loop μ-loop
-loop-again c = (omega arith, decoded-more _ (c .before .before .loop .inv .1) (omega arith) (c .two .ensures .value))
+loop-again c = (omega arith, written-more (c .before .before .loop .inv .1) (omega arith) (c .two .ensures .value))
 
 same-length : tie.Need-same-length Inv-loop μ-loop
-same-length c = c .before .loop .inv .1 .size
+same-length c = c .before .loop .inv .1 .kept .size
 
 returns : tie.Need-returns Inv-loop μ-loop
 returns c =
