@@ -6,7 +6,7 @@ use mathlib.Core.List.{List}
 use lib.ListN.{length}
 use Rattle.rules.specs.Request.{source}
 use Rattle.rules.specs.Answers.{Outcome, gives, refuses}
-use Rattle.rules.specs.Program.{printed, PlanText, requestPart}
+use Rattle.rules.specs.Program.{answerText, PlanText, requestPart}
 use Rattle.rules.proofs.AnswerLaws.{searched-unique}
 use Rattle.output.specs.Text.{Printed, short, whole}
 
@@ -26,9 +26,9 @@ printed-unique {input} {before} (whole t g tells writes counts) (whole u h says 
 
 -- No text is empty: it begins with a word. So 0 is told of a room that is too small, and of nothing else.
 pub some-text : {network request text : List ℕ} → PlanText network request text → 0 < length text
-unfolding printed
+unfolding answerText
 some-text {network} {request} t = omega (arith, ap length (t .says), begins (t .answer))
   where
-    begins : (answer : Outcome) → 0 < length (printed network (source request) answer (t .after .distances) (t .after .steps))
+    begins : (answer : Outcome) → 0 < length (answerText network (source request) answer (t .after .distances) (t .after .steps))
     begins (gives values) = omega arith
     begins (refuses number place) = omega arith

@@ -7,7 +7,7 @@ use mathlib.Core.List.{List, [], _∷_, _++_, append-nil, append-assoc}
 use lib.ListN.{length, getD, set, take, drop, length-set, length-append, length-drop, take-append-drop}
 use lib.Seq.{length-take-le, take-suc, take-suc-set, take-all, getD-drop, drop-set-lt, drop-drop}
 use Rattle.rules.specs.Rooms.{Written}
-use Rattle.rules.specs.Program.{networkSize, networkPart, requestPart}
+use Rattle.rules.specs.Program.{networkSize, networkPart, requestPart, mostInput}
 use Rattle.output.specs.Text.{textPlaces, Put, PutPlan, Printed, short, whole}
 
 pub put-nothing : {at : ℕ} (before : List ℕ) → at ≤ length before → Put at [] before before at
@@ -24,19 +24,24 @@ put-byte {at} {byte} before h =
     }
 
 -- What is written behind a text makes it longer.
-pub put-then : {at mid end : ℕ} {text more before between after : List ℕ} → Put at text before between mid → Put mid more between after end → Put at (text ++ more) before after end
+pub put-then : {at mid end : ℕ} {text more before between after : List ℕ} → Put at text before between mid
+    → Put mid more between after end → Put at (text ++ more) before after end
 put-then {at} {mid} {end} {text} {more} {before} {between} {after} p q =
     record {
       size = q .size ∙ p .size;
       ends = omega (arith, p .ends, q .ends, length-append text more);
       within = omega (arith, q .within, p .size);
       says = q .says ∙ ap (λ (front : List ℕ). front ++ more) (p .says) ∙ append-assoc (take at before) text more;
-      later = q .later ∙ rw (q .ends) (sym (drop-drop (length more) mid between) ∙ ap (drop (length more)) (p .later) ∙ drop-drop (length more) mid before);
+      later =
+          q .later ∙ rw (q .ends) (sym (drop-drop (length more) mid between) ∙ ap (drop (length more)) (p .later) ∙ drop-drop
+          (length more) mid before);
     }
 
 -- Text at the start of a room.
 pub put-written : {end : ℕ} {text before after : List ℕ} → Put 0 text before after end → Written text before after
-put-written {end} {text} {before} {after} p = sym (take-append-drop end after) ∙ ap (λ (front : List ℕ). front ++ drop end after) (p .says) ∙ ap (λ (rest : List ℕ). text ++ rest) (p .later ∙ ap (λ (k : ℕ). drop k before) ends)
+put-written {end} {text} {before} {after} p =
+    sym (take-append-drop end after) ∙ ap (λ (front : List ℕ). front ++ drop end after) (p .says) ∙ ap
+    (λ (rest : List ℕ). text ++ rest) (p .later ∙ ap (λ (k : ℕ). drop k before) ends)
   where
     ends : end ≡ length text
     ends = omega (arith, p .ends)
@@ -56,15 +61,27 @@ module _ {bytes : List ℕ} {start at : ℕ} {before : List ℕ} where
 
   module _ {i end : ℕ} {after : List ℕ} (so : Copied bytes start i at before after end) where
     pub copied-end : end + start ≡ at + i
-    copied-end = omega (arith, so .put .ends, so .from, so .to, length-drop start bytes, length-take-le (i - start) (drop start bytes) (omega (arith, so .to, length-drop start bytes)))
+    copied-end =
+        omega (
+          arith,
+          so .put .ends,
+          so .from,
+          so .to,
+          length-drop start bytes,
+          length-take-le (i - start) (drop start bytes)
+              (omega (arith, so .to, length-drop start bytes)),
+        )
 
     -- one byte more
-    pub copied-more : i < length bytes → end < length after → Copied bytes start (i + 1) at before (set after end (getD bytes i 0)) (end + 1)
+    pub copied-more : i < length bytes → end < length after
+        → Copied bytes start (i + 1) at before (set after end (getD bytes i 0)) (end + 1)
     copied-more inside room =
         record {
           from = omega (arith, so .from);
           to = omega arith;
-          put = rw (one-more, take-suc (drop start bytes) k 0 (omega (arith, so .from, length-drop start bytes)), byte) (put-then (so .put) (put-byte after room));
+          put =
+              rw (one-more, take-suc (drop start bytes) k 0 (omega (arith, so .from, length-drop start bytes)), byte)
+              (put-then (so .put) (put-byte after room));
         }
       where
         k : ℕ
@@ -83,7 +100,9 @@ module _ {bytes : List ℕ} {start at : ℕ} {before : List ℕ} where
     copied-all all = rw (← take-all (i - start) (drop start bytes) (omega (arith, length-drop start bytes))) (so .put)
 
 -- the two parts, as they are handed over
-pub parted : (taken : List ℕ) (size : ℕ) {before after : List ℕ} {end : ℕ} → size ≡ networkSize taken → PutPlan (take (size - 0) taken) (take (length taken - size) (drop size taken)) before after end → PutPlan (take (networkSize taken) taken) (drop (networkSize taken) taken) before after end
+pub parted : (taken : List ℕ) (size : ℕ) {before after : List ℕ} {end : ℕ} → size ≡ networkSize taken
+    → PutPlan (take (size - 0) taken) (take (length taken - size) (drop size taken)) before after end
+    → PutPlan (take (networkSize taken) taken) (drop (networkSize taken) taken) before after end
 parted taken size e p = rw (← e) (rw (front, rest) at p)
   where
     front : size - 0 ≡ size
@@ -93,14 +112,17 @@ parted taken size e p = rw (← e) (rw (front, rest) at p)
     rest = take-all (length taken - size) (drop size taken) (omega (arith, length-drop size taken))
 
 -- What was written for the parts of an input is what the program prints.
-pub printed-whole : (input : List ℕ) {before after : List ℕ} {end : ℕ} → textPlaces ≤ length before → PutPlan (networkPart input) (requestPart input) before after end → Printed input before after end
+pub printed-whole : (input : List ℕ) {before after : List ℕ} {end : ℕ} → textPlaces ≤ length before
+    → PutPlan (networkPart input) (requestPart input) before after end → Printed input before after end
 printed-whole input room p = whole (p .text) room (p .tells) (put-written (p .put)) (omega (arith, p .put .ends))
 
 -- An input that is not too long is taken whole.
-pub printed-all : (input : List ℕ) {before after : List ℕ} {end : ℕ} → length input ≤ 16424 → textPlaces ≤ length before → PutPlan (take (networkSize input) input) (drop (networkSize input) input) before after end → Printed input before after end
-printed-all input fits room p = printed-whole input room (rw (take-all 16424 input fits) p)
+pub printed-all : (input : List ℕ) {before after : List ℕ} {end : ℕ} → length input ≤ mostInput → textPlaces ≤ length before
+    → PutPlan (take (networkSize input) input) (drop (networkSize input) input) before after end → Printed input before after end
+printed-all input fits room p = printed-whole input room (rw (take-all mostInput input fits) p)
 
 -- the text lies within the room
 pub printed-within : {input before after : List ℕ} {count : ℕ} → Printed input before after count → count ≤ length after
 printed-within (short room same none) = omega arith
-printed-within {before = before} (whole text room tells written counts) = omega (arith, ap length written, length-append text (drop (length text) before))
+printed-within {before = before} (whole text room tells written counts) =
+    omega (arith, ap length written, length-append text (drop (length text) before))

@@ -6,7 +6,10 @@ use lib.ListN.{length, take, drop}
 use Rattle.rules.specs.Request.{source}
 use Rattle.rules.specs.Answers.{Outcome, gives}
 use Rattle.rules.specs.Program.{stepLines}
+use Rattle.rules.specs.Limits.{mostNodes, mostRiders}
+use Rattle.rules.specs.Rooms.{distancePlaces, stepPlaces}
 use Rattle.lines.specs.Steps.{Rides}
+use Rattle.lines.specs.Text.{longestLine}
 use Rattle.output.specs.Text.{Put}
 
 -- A plan was found: its request has a source, its steps lie within their room, and the bus rides them from the source.
@@ -16,8 +19,8 @@ pub record Printable (network request steps : List ℕ) (count : ℕ) : Type 0 w
   pub rides : Rides network (source request) (take count steps)
 
 pub record Answered (network request distances steps : List ℕ) (answer : Outcome) : Type 0 where
-  pub room : 3584 ≤ length distances
-  pub few : length steps ≤ 4095
+  pub room : distancePlaces mostNodes mostRiders ≤ length distances
+  pub few : length steps ≤ stepPlaces mostNodes mostRiders
   pub found : (cost count : ℕ) → answer ≡ gives (cost ∷ count ∷ []) → Printable network request steps count
 
 -- The lines of the first i steps were written, the bus stands at v, and what is left gives the whole.
@@ -26,4 +29,4 @@ pub record Stepping (network distances : List ℕ) (start : ℕ) (steps : List �
   pub put : Put at text before after end
   pub whole : text ++ stepLines network distances v (drop i steps) ≡ stepLines network distances start steps
   pub rides : Rides network v (drop i steps)
-  pub short : length text ≤ 96 * i
+  pub short : length text ≤ longestLine * i

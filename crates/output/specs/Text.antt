@@ -4,11 +4,13 @@ use mathlib.Core.Path.{_≡_}
 use mathlib.Core.List.{List, _++_}
 use lib.ListN.{length, take, drop}
 use Rattle.rules.specs.Program.{PlanText, ProgramText}
-use Rattle.rules.specs.Rooms.{Written}
+use Rattle.rules.specs.Rooms.{Written, stepPlaces}
+use Rattle.rules.specs.Limits.{mostNodes, mostRiders}
+use Rattle.lines.specs.Text.{longestLine}
 
--- one line for the plan and one for each of its steps, of at most 96 bytes
+-- one line for the plan and one for each of its steps
 abbrev pub textPlaces : ℕ
-textPlaces = 96 * 4096
+textPlaces = longestLine * (stepPlaces mostNodes mostRiders + 1)
 
 -- The text was written from a place on, up to its end. All else is as it was.
 pub record Put (at : ℕ) (text before after : List ℕ) (end : ℕ) : Type 0 where
@@ -24,7 +26,9 @@ pub record PutPlan (network request before after : List ℕ) (end : ℕ) : Type 
   pub tells : PlanText network request text
   pub put : Put 0 text before after end
 
--- What the program prints is written at the start of the room, and its length is told; a room of too few places is left as it was, and 0 is told, which is no text's length.
+-- What the program prints is written at the start of the room, and its length is told; a room of too few places is left as it was,
+-- and 0 is told, which is no text's length.
 pub data Printed (input before after : List ℕ) (count : ℕ) : Type 0 where
   short : length before < textPlaces → after ≡ before → count ≡ 0 → Printed input before after count
-  whole : (text : List ℕ) → textPlaces ≤ length before → ProgramText input text → Written text before after → count ≡ length text → Printed input before after count
+  whole : (text : List ℕ) → textPlaces ≤ length before → ProgramText input text → Written text before after → count ≡ length text
+      → Printed input before after count

@@ -1,4 +1,5 @@
 // The pieces of the text, one behind the other.
+use lines::LONGEST_LINE;
 use lines::Line;
 use lines::inner::node_after;
 use lines::inner::step_line;
@@ -7,8 +8,10 @@ ghost use Prim.Native.Nat.{_+_, _*_, _≤_};
 ghost use lib.ListN.{length};
 ghost use Rattle.rules.specs.Request.{source};
 ghost use Rattle.rules.specs.Answers.{plannedOutcome};
-ghost use Rattle.rules.specs.Program.{printed, stepLines};
-ghost use Rattle.lines.specs.Text.{Room, textOf};
+ghost use Rattle.rules.specs.Program.{answerText, stepLines};
+ghost use Rattle.rules.specs.Limits.{mostNodes, mostRiders};
+ghost use Rattle.rules.specs.Rooms.{distancePlaces};
+ghost use Rattle.lines.specs.Text.{Room, textOf, longestLine};
 ghost use Rattle.lines.specs.Steps.{Rides};
 ghost use Rattle.output.specs.Text.{textPlaces, Put};
 ghost use Rattle.output.specs.Answered.{Answered};
@@ -23,7 +26,8 @@ pub fn put_answer(
     text: &mut [u8],
 ) -> usize
     requires { ⌜ Answered (now network) (now request) (now distances) (now steps) (plannedOutcome answer) × (textPlaces ≤ length (now text)) ⌝ }
-    ensures { λ r. ⌜ Put 0 (printed (now (network .entry)) (source (now (request .entry))) (plannedOutcome answer) (now (distances .entry)) (now (steps .entry))) (now (text .entry)) (now (text .exit)) r ⌝ }
+    ensures { λ r. ⌜ Put 0 (answerText (now (network .entry)) (source (now (request .entry))) (plannedOutcome answer)
+        (now (distances .entry)) (now (steps .entry))) (now (text .entry)) (now (text .exit)) r ⌝ }
 {
     let Planned::Plan { cost, count } = answer else {
         let Planned::Refused(refusal) = answer else {
@@ -47,8 +51,10 @@ fn put_steps(
     text: &mut [u8],
     at: usize,
 ) -> usize
-    requires { ⌜ Rides (now network) source (now steps) × (3584 ≤ length (now distances)) × (at + 96 * length (now steps) ≤ length (now text)) ⌝ }
-    ensures { λ r. ⌜ Put at (stepLines (now (network .entry)) (now (distances .entry)) source (now (steps .entry))) (now (text .entry)) (now (text .exit)) r ⌝ }
+    requires { ⌜ Rides (now network) source (now steps) × (distancePlaces mostNodes mostRiders ≤ length (now distances)) ×
+        (at + longestLine * length (now steps) ≤ length (now text)) ⌝ }
+    ensures { λ r. ⌜ Put at (stepLines (now (network .entry)) (now (distances .entry)) source (now (steps .entry)))
+        (now (text .entry)) (now (text .exit)) r ⌝ }
 {
     let mut end = at;
     let mut node = source;
@@ -64,13 +70,13 @@ fn put_steps(
 
 // Writes a line, and gives the place behind it.
 fn put_line(line: Line, text: &mut [u8], at: usize) -> usize
-    requires { ⌜ Room 0 line × (at + 96 ≤ length (now text)) ⌝ }
+    requires { ⌜ Room 0 line × (at + longestLine ≤ length (now text)) ⌝ }
     ensures { λ r. ⌜ Put at (textOf line) (now (text .entry)) (now (text .exit)) r ⌝ }
 {
     let bytes = line.bytes;
     let mut i = line.start;
     let mut end = at;
-    while i < 96 {
+    while i < LONGEST_LINE {
         text[end] = bytes[i];
         i += 1;
         end += 1;

@@ -6,7 +6,7 @@ use libc::STDOUT_FILENO;
 fn main() {
     let mut input = [0u8; output::MOST_INPUT];
     let count = io::read_full(STDIN_FILENO, &mut input);
-    let mut text = [0u8; output::PLACES];
-    let length = output::print(&input[..count], &mut text);
+    let mut text = [0u8; output::TEXT_PLACES];
+    let length = output::write_text(&input[..count], &mut text);
     io::write_all(STDOUT_FILENO, &text[..length]);
 }

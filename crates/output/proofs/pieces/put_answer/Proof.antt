@@ -8,21 +8,55 @@ use Rattle.output.proofs.pieces.put_answer.Statement.{statement}
 use Rattle.output.proofs.pieces.put_answer.Tie as tie
 
 returns-2 : tie.Need-returns-2
-returns-2 c = put-refused (c .before .before .before .before .before .before .before .before .before .before .before .before .before .before .before .before .before .args .network .now) (c .before .before .before .before .before .before .before .before .before .before .before .before .before .before .before .before .before .args .distances .now) (c .before .before .before .before .before .before .before .before .before .before .before .before .before .before .before .before .before .args .steps .now) (source (c .before .before .before .before .before .before .before .before .before .before .before .before .before .before .before .before .before .args .request .now)) (plannedOutcome (c .before .before .before .before .before .before .before .before .before .before .before .before .before .before .before .before .before .args .answer)) (ap plannedOutcome (c .before .before .before .before .before .before .before .before .before .before .answer2 .given .1 ∙ c .before .before .before .before .before .before .before .answer3 .given .1)) (c .before .before .before .before .refused-line .ensures) (c .before .before .put-line .ensures)
+returns-2 c =
+    let at-answer = c .before .before .before .before .before .before .before in
+    let at-answer-2 = c .before .before .before .before .before .before .before .before .before .before in
+    let entry =
+    c .before .before .before .before .before .before .before .before .before .before .before .before .before .before .before .before .before in
+    put-refused (entry .args .network .now) (entry .args .distances .now) (entry .args .steps .now)
+    (source (entry .args .request .now)) (plannedOutcome (entry .args .answer))
+    (ap plannedOutcome (at-answer-2 .answer2 .given .1 ∙ at-answer .answer3 .given .1))
+    (c .before .before .before .before .refused-line .ensures) (c .before .before .put-line .ensures)
 
 request-source-requires : tie.Need-request-source-requires
-request-source-requires c κs = omega (arith, c .before .before .before .before .before .before .before .before .before .before .before .before .before .pre .0 .found _ _ (ap plannedOutcome (c .before .before .before .before .before .before .answer .given .1)) .long)
+request-source-requires c κs =
+    let at-answer = c .before .before .before .before .before .before in
+    let entry = c .before .before .before .before .before .before .before .before .before .before .before .before .before in
+    omega (arith, entry .pre .0 .found _ _ (ap plannedOutcome (at-answer .answer .given .1)) .long)
 
 part-put-steps-end : tie.Need-part-put-steps-end
-part-put-steps-end c = omega (arith, c .before .before .before .before .before .before .before .before .before .before .before .before .before .before .pre .0 .found _ _ (ap plannedOutcome (c .before .before .before .before .before .before .before .answer .given .1)) .within)
+part-put-steps-end c =
+    let at-answer = c .before .before .before .before .before .before .before in
+    let entry = c .before .before .before .before .before .before .before .before .before .before .before .before .before .before in
+    omega (arith, entry .pre .0 .found _ _ (ap plannedOutcome (at-answer .answer .given .1)) .within)
 
 put-steps-requires : tie.Need-put-steps-requires
 put-steps-requires c κs =
-    let found = c .before .before .before .before .before .before .before .before .before .before .before .before .before .before .before .before .pre .0 .found _ _ (ap plannedOutcome (c .before .before .before .before .before .before .before .before .before .answer .given .1)) in
-    (rides-from (c .before .before .before .before .before .before .before .before .before .before .before .before .before .before .before .before .args .steps .now) (c .before .before .before .before .before .before .before .before .before .answer .given .0 .1 .0) (c .before .before .request-source .ensures .value) (found .rides), c .before .before .before .before .before .before .before .before .before .before .before .before .before .before .before .before .pre .0 .room, steps-room (c .before .before .before .before .before .before .before .before .before .before .before .before .before .before .before .before .args .steps .now) (found .within) (c .before .before .before .before .before .before .before .before .before .before .before .before .before .before .before .before .pre .0 .few) (c .before .before .before .before .before .before .before .ok-line .ensures) (c .before .before .before .before .before .put-line2 .ensures) (c .before .before .before .before .before .before .before .before .before .before .before .before .before .before .before .before .pre .1))
+    let at-put-line = c .before .before .before .before .before in
+    let at-ok-line = c .before .before .before .before .before .before .before in
+    let at-answer = c .before .before .before .before .before .before .before .before .before in
+    let entry = c .before .before .before .before .before .before .before .before .before .before .before .before .before .before .before .before in
+    let found = entry .pre .0 .found _ _ (ap plannedOutcome (at-answer .answer .given .1)) in (
+      rides-from (entry .args .steps .now) (at-answer .answer .given .0 .1 .0) (c .before .before .request-source .ensures .value)
+          (found .rides),
+      entry .pre .0 .room,
+      steps-room (entry .args .steps .now) (found .within) (entry .pre .0 .few)
+          (at-ok-line .ok-line .ensures) (at-put-line .put-line2 .ensures) (entry .pre .1),
+    )
 
 returns-3 : tie.Need-returns-3
-returns-3 c = put-planned (c .before .before .before .before .before .before .before .before .before .before .before .before .before .before .before .before .before .before .before .args .network .now) (c .before .before .before .before .before .before .before .before .before .before .before .before .before .before .before .before .before .before .before .args .distances .now) (c .before .before .before .before .before .before .before .before .before .before .before .before .before .before .before .before .before .before .before .args .steps .now) (source (c .before .before .before .before .before .before .before .before .before .before .before .before .before .before .before .before .before .before .before .args .request .now)) (plannedOutcome (c .before .before .before .before .before .before .before .before .before .before .before .before .before .before .before .before .before .before .before .args .answer)) (ap plannedOutcome (c .before .before .before .before .before .before .before .before .before .before .before .before .answer .given .1)) (c .before .before .before .before .before .before .before .before .before .before .ok-line .ensures) (c .before .before .before .before .before .before .before .before .put-line2 .ensures) (c .before .before .before .before .before .request-source .ensures .value) (c .before .before .put-steps .ensures)
+returns-3 c =
+    let at-request-source = c .before .before .before .before .before in
+    let at-put-line = c .before .before .before .before .before .before .before .before in
+    let at-ok-line = c .before .before .before .before .before .before .before .before .before .before in
+    let at-answer = c .before .before .before .before .before .before .before .before .before .before .before .before in
+    let entry =
+    c .before .before .before .before .before .before .before .before .before .before .before .before .before .before .before
+    .before .before .before .before in
+    put-planned (entry .args .network .now) (entry .args .distances .now) (entry .args .steps .now)
+    (source (entry .args .request .now)) (plannedOutcome (entry .args .answer))
+    (ap plannedOutcome (at-answer .answer .given .1)) (at-ok-line .ok-line .ensures) (at-put-line .put-line2 .ensures)
+    (at-request-source .request-source .ensures .value) (c .before .before .put-steps .ensures)
 
 pub put-answer-spec : {M : Type 1} → statement M
 put-answer-spec =

@@ -1,3 +1,5 @@
+-- Invariant: what is written, and the lines of the steps from i on from where the bus stands, make the whole. Each turn leaves one
+-- step less.
 use Prim.Native.Nat.{_-_}
 use lib.ListN.{length}
 use native.Mathlib.Omega.{arith}
@@ -21,16 +23,36 @@ cast-step : tie.Need-cast-step Inv-loop μ-loop
 cast-step c = omega (arith, c .shared-slice-known4 .given (c .before .before .loop .i))
 
 step-line-requires : tie.Need-step-line-requires Inv-loop μ-loop
-step-line-requires c κs = (step-takes (c .before .before .loop .inv) (search needs), c .before .before .before .before .before .before .before .pre .1)
+step-line-requires c κs =
+    let entry = c .before .before .before .before .before .before .before in
+    (step-takes (c .before .before .loop .inv) (search needs), entry .pre .1)
 
 put-line-requires : tie.Need-put-line-requires Inv-loop μ-loop
-put-line-requires c κs = (reads-room (c .before .step-line .ensures), omega (arith, c .before .before .before .before .loop .inv .put .ends, c .before .before .before .before .loop .inv .put .size, c .before .before .before .before .loop .inv .short, c .before .before .before .loop-test .taken, c .before .before .before .before .before .before .before .before .before .pre .2))
+put-line-requires c κs =
+    let entry = c .before .before .before .before .before .before .before .before .before in (
+      reads-room (c .before .step-line .ensures),
+      omega (
+        arith,
+        c .before .before .before .before .loop .inv .put .ends,
+        c .before .before .before .before .loop .inv .put .size,
+        c
+            .before .before .before .before .loop .inv .short,
+        c .before .before .before .loop-test .taken,
+        entry .pre .2,
+      ),
+    )
 
 node-after-requires : tie.Need-node-after-requires Inv-loop μ-loop
-node-after-requires c κs = step-takes (c .before .before .before .before .before .before .before .loop .inv) (search needs)
+node-after-requires c κs =
+    let at-loop = c .before .before .before .before .before .before .before in
+    step-takes (at-loop .loop .inv) (search needs)
 
 loop-again : tie.Need-loop-again Inv-loop μ-loop
-loop-again c = stepping-more (c .before .before .before .before .before .before .before .before .loop .inv) (search needs) (c .before .before .before .before .before .step-line .ensures) (c .before .before .before .put-line .ensures) (c .node-after .ensures)
+loop-again c =
+    let at-step-line = c .before .before .before .before .before in
+    let at-loop = c .before .before .before .before .before .before .before .before in
+    stepping-more (at-loop .loop .inv) (search needs) (at-step-line .step-line .ensures)
+    (c .before .before .before .put-line .ensures) (c .node-after .ensures)
 
 same-length : tie.Need-same-length Inv-loop μ-loop
 same-length c = c .before .loop .inv .put .size
