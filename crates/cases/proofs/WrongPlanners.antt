@@ -70,8 +70,8 @@ module _ (p : Planner) where
       let z : _≡_ {A = ℕ} 0 32771 = ap (λ (l : Lent). getD (l .table) 5 0) (sym kept ∙ right) in
       omega arith
 
--- One that weighs rider 0 and only lists the others, at case J: it takes the plan of case A and meets rider 1 beside rider 0, whatever
--- it says of the cost.
+-- One to which only rider 0 has a weight, at case J: it takes the plan of case A and meets rider 1 beside rider 0, whatever it says of
+-- the cost.
 pub weighs-rider-0 : (cost : ℕ) → Fails rowJ (plan cost (8 ∷ 0 ∷ 1 ∷ 9 ∷ []))
 weighs-rider-0 cost = fails (plan cost (8 ∷ 0 ∷ 1 ∷ 9 ∷ [])) (town-holds 9) (λ e. clash (cc))
 
@@ -94,7 +94,7 @@ one-weight-for-all so = elim (so .pricing) [
       )
 ]
 
--- One whose step count is invented, at case A.
+-- One that tells any other number of steps, at case A.
 pub invents-the-count : (cost count : ℕ) → count ≢ 3 → (before after : Lent) → EnoughFor rowA before
     → SearchedCase rowA before after (gives (cost ∷ count ∷ [])) → ⊥
 invents-the-count cost count other before after enough s =
@@ -102,11 +102,11 @@ invents-the-count cost count other before after enough s =
     other (cc)
 
 -- ---- wrong plans seen on desks
--- Driving a walkers' link at its walking cost, through the wall (7.1). It is right where the wall is open, by a case of our own.
+-- Through the wall, where only walkers may go, at what it costs them (7.1). It is right where the wall is open, by a case of our own.
 pub drives-through-the-wall : Fails rowB (wallOpened .result)
 drives-through-the-wall = fails (wallOpened .result) (town-holds 1) (λ e. clash (cc))
 
--- Passing every rider's node, by the shortcut of Lemma 4.4 of source document 000 (7.2): it costs 11 in case C.
+-- Past every rider's node, by the shortcut of Lemma 4.4 of source document 000 (7.2): that costs 11 in case C.
 pub passes-every-rider : Fails rowC (plan 11 (10 ∷ 15 ∷ 0 ∷ 13 ∷ 11 ∷ []))
 passes-every-rider = fails (plan 11 (10 ∷ 15 ∷ 0 ∷ 13 ∷ 11 ∷ [])) (town-holds 2) (λ e. clash (cc))
 
@@ -114,7 +114,7 @@ pub passes-every-rider-price : Price (rowC .network) (asked rowC) (2 ∷ 7 ∷ 5
 unfolding pricedAt
 passes-every-rider-price = case-priced (town-holds 2) (2 ∷ 7 ∷ 5 ∷ 3 ∷ []) (2 ∷ []) refl
 
--- Stopping when the target is first reached (7.3): in case B with the rider left behind, or met on the way for 26.
+-- No further than to the target (7.3): in case B with the rider left behind, or met on the way for 26.
 pub stops-without-the-rider : (cost : ℕ) → Fails rowB (plan cost (8 ∷ 9 ∷ []))
 stops-without-the-rider cost = fails (plan cost (8 ∷ 9 ∷ [])) (town-holds 1) (λ e. clash (cc))
 
@@ -125,7 +125,7 @@ pub stops-with-the-rider-price : Price (rowB .network) (asked rowB) (0 ∷ 1 ∷
 unfolding pricedAt
 stops-with-the-rider-price = case-priced (town-holds 1) (0 ∷ 1 ∷ []) (1 ∷ []) refl
 
--- Forbidding repeated nodes (7.4): no right plan of cases B and J goes without.
+-- No node twice (7.4): the right plans of cases B and J have one.
 pub forbids-repeated-nodes-B : {steps : List ℕ} {cost : ℕ} → RightPlan (rowB .network) (asked rowB) steps cost
     → NoNodeTwice rowB (drivesOf steps) → ⊥
 unfolding number nodeAt drivesOf
@@ -140,7 +140,7 @@ forbids-repeated-nodes-J right once =
     let same = right-plan-unique right (town-holds 9 .result) .0 in
     (rw same at once) 1 3 (omega arith) (omega arith) refl
 
--- Giving a rider up because the bus can't reach the rider's own node (7.5).
+-- No plan where the rider's own node is out of the bus's reach (7.5).
 pub gives-the-rider-up : Fails offTheRoad none
 gives-the-rider-up = fails none (own-holds 4) (λ e. clash (cc))
 

@@ -25,63 +25,63 @@ drivesTo3 = pack 6 2 ∷ pack 3 1 ∷ pack 4 1 ∷ 0 ∷ pack 5 2 ∷ []
 abbrev drivesTo0 : List ℕ
 drivesTo0 = 0 ∷ noFinish ∷ noFinish ∷ noFinish ∷ noFinish ∷ []
 
--- A: rider at 4, weight 1
+-- case A: a light rider at 4
 abbrev pub rowA : Case
 rowA =
     inTown (request 0 3 1 (rider 4 1)) (plan 8 (8 ∷ 0 ∷ 9 ∷ []))
     walksFrom4
     (drivesTo3 ++ pack 8 3 ∷ pack 5 2 ∷ pack 6 4 ∷ pack 11 1 ∷ pack 5 3 ∷ [])
 
--- B: rider at 4, weight 10
+-- case B: a heavy rider at 4
 abbrev pub rowB : Case
 rowB =
     inTown (request 0 3 1 (rider 4 10)) (plan 11 (10 ∷ 15 ∷ 0 ∷ 13 ∷ 11 ∷ []))
     walksFrom4
     (drivesTo3 ++ pack 11 5 ∷ pack 23 2 ∷ pack 6 4 ∷ pack 110 1 ∷ pack 5 3 ∷ [])
 
--- C: rider at 4, weight 2
+-- case C: one of weight 2
 abbrev pub rowC : Case
 rowC =
     inTown (request 0 3 1 (rider 4 2)) (plan 10 (8 ∷ 0 ∷ 9 ∷ []))
     walksFrom4
     (drivesTo3 ++ pack 10 3 ∷ pack 7 2 ∷ pack 6 4 ∷ pack 22 1 ∷ pack 5 3 ∷ [])
 
--- D: a = 2, rider at 4, weight 5
+-- case D: one of weight 5, and a bus of weight 2
 abbrev pub rowD : Case
 rowD =
     inTown (request 0 3 2 (rider 4 5)) (plan 22 (8 ∷ 0 ∷ 9 ∷ []))
     walksFrom4
     (pack 12 2 ∷ pack 6 1 ∷ pack 8 1 ∷ 0 ∷ pack 10 2 ∷ pack 22 3 ∷ pack 16 2 ∷ pack 12 4 ∷ pack 55 1 ∷ pack 10 3 ∷ [])
 
--- E: source = target = 0, no rider
+-- case E: nobody, and nowhere to go
 abbrev pub rowE : Case
 rowE =
     inTown (request 0 0 1 []) (plan 0 [])
     []
     drivesTo0
 
--- F: source 3, target 0, no rider
+-- case F: nobody, and no drive there
 abbrev pub rowF : Case
 rowF =
     inTown (request 3 0 1 []) none
     []
     drivesTo0
 
--- G: rider at 0, weight 1
+-- case G: a rider at the source
 abbrev pub rowG : Case
 rowG =
     inTown (request 0 3 1 (rider 0 1)) (plan 6 (0 ∷ 8 ∷ 9 ∷ []))
     (0 ∷ 9 ∷ 17 ∷ 18 ∷ 11 ∷ [])
     (drivesTo3 ++ pack 6 3 ∷ pack 12 2 ∷ pack 17 4 ∷ pack 18 1 ∷ pack 16 3 ∷ [])
 
--- H: rider at 3, weight 1
+-- case H: a rider at the target
 abbrev pub rowH : Case
 rowH =
     inTown (request 0 3 1 (rider 3 1)) (plan 6 (8 ∷ 9 ∷ 0 ∷ []))
     walksFrom3
     (drivesTo3 ++ pack 6 3 ∷ pack 3 2 ∷ pack 4 2 ∷ pack 0 1 ∷ pack 5 3 ∷ [])
 
--- I: riders at 4 and 4, weights 1, 1
+-- case I: two light riders at 4
 abbrev pub rowI : Case
 rowI =
     inTown (request 0 3 1 (rider 4 1 ++ rider 4 1)) (plan 10 (8 ∷ 0 ∷ 1 ∷ 9 ∷ []))
@@ -91,7 +91,7 @@ rowI =
     ∷ pack 8 3 ∷ pack 5 2 ∷ pack 6 4 ∷ pack 11 1 ∷ pack 5 3
     ∷ pack 10 4 ∷ pack 7 3 ∷ pack 6 5 ∷ pack 22 2 ∷ pack 5 4 ∷ [])
 
--- J: the same, weights 1, 2
+-- case J: two at 4, the second heavier
 abbrev pub rowJ : Case
 rowJ =
     inTown (request 0 3 1 (rider 4 1 ++ rider 4 2)) (plan 11 (10 ∷ 15 ∷ 0 ∷ 1 ∷ 13 ∷ 11 ∷ []))
@@ -101,7 +101,7 @@ rowJ =
     ∷ pack 10 3 ∷ pack 7 2 ∷ pack 6 4 ∷ pack 22 1 ∷ pack 5 3
     ∷ pack 11 6 ∷ pack 9 3 ∷ pack 6 5 ∷ pack 33 2 ∷ pack 5 4 ∷ [])
 
--- K: source = target = 0, rider at 3, weight 1
+-- case K: nowhere to go, and a rider who can't walk there
 abbrev pub rowK : Case
 rowK =
     inTown (request 0 0 1 (rider 3 1)) none

@@ -1,4 +1,4 @@
--- Driving uses driving costs only, and walking uses walking costs only.
+-- What a price rests on: the drive costs of the links driven, and the walk costs that make up the riders' distances.
 use Prim.Native.Nat.{ℕ, zero, suc, _≤_}
 use mathlib.Core.Path.{_≡_, refl, sym}
 use mathlib.Core.Logic.{_↔_, Iff·symm}

@@ -1,4 +1,4 @@
--- The price of a route is (a+w) times the paper's f, and a route of least price is one that Definition 2.1 asks for.
+-- The price of a route against the paper's f, and the cheapest routes as those that Definition 2.1 asks for.
 use Prim.Native.Nat.{ℕ, zero, suc, _+_, _*_, _<_}
 use mathlib.Core.Path.{_≡_, refl, sym, _∙_, ap, ap₂, subst}
 use mathlib.Core.List.{List, _∷_}
@@ -35,7 +35,7 @@ cost-unique {query = query} one x y =
     x .averages ∙ ap₂ (average (query .alpha)) (path-unique one (x .path) (y .path)) d ∙ sym (y .averages)
 
 module _ {network : List ℕ} (two : TwoWay network) {q : Request} {route : List ℕ} where
-  -- A rider's meeting position is at the distance of equation (1) ..
+  -- The rider walks to the meeting position as far as equation (1) says ..
   meeting-near : {j position d : ℕ} → Meeting network q route j position d
       → NodeRoute (graphOf network) (riderNodeOf q j) (q .source ∷ nodesOf network route) d
   meeting-near {j} {position} m =

@@ -20,7 +20,7 @@ pub data Path (G : Graph) (t : ℕ) : ℕ → List ℕ → ℕ → Type 0 where
   stays : {s c : ℕ} → s ≡ t → c ≡ 0 → Path G t s [] c
   goes : {s v c : ℕ} {P : List ℕ} (w rest : ℕ) → G .Edge s v w → Path G t v P rest → c ≡ w + rest → Path G t s (v ∷ P) c
 
--- dist(u, v) is d: the cost of a shortest path from u to v.
+-- dist(u, v) is d: what a shortest path there costs.
 pub record Dist (G : Graph) (u v d : ℕ) : Type 0 where
   pub nodes : List ℕ
   pub path : Path G v u nodes d

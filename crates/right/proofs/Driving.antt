@@ -48,7 +48,7 @@ module _ {network : List ℕ} {q : Request} where
         paid = λ none. omega (arith, t .paid none, mul-add (busWeightOf q) w (t .driving));
       }
 
-  -- Each rider of R, and no other, is met once.
+  -- The riders of R are met once each, and others never.
   pub met-never : {R v c : ℕ} {steps : List ℕ} (j : ℕ) → j < firstDrive → ¬ Has R j → Finish network q R v steps c → timesMet j steps ≡ 0
   unfolding timesMet
   met-never j rider lacks (arrive e t z) = refl

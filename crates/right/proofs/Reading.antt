@@ -1,7 +1,7 @@
 -- The lowest tight steps, one after the other, are the right plan.
 use Prim.Native.Nat.{ℕ, suc, _+_, _/_, _%_, _^_, _<_, _≤_}
 use mathlib.Core.Path.{_≡_, refl, ap}
-use mathlib.Core.Logic.{inl, inr, _↔_}
+use mathlib.Core.Logic.{inl, inr}
 use mathlib.Core.List.{List, [], _∷_, _++_, append-nil, append-assoc}
 use lib.ListN.{length, length-append}
 use native.Mathlib.Decide.{decLt}
@@ -56,92 +56,86 @@ module _ {network : List ℕ} {q : Request} where
     step-inside (drives k _ _ link s _) h g = (omega arith, leads-joins sound link .end)
 
     module _ (value : SoundValue (nodeCount network) q) {T : ℕ → ℕ → ℕ} (table : Tabled network q T) where
-      -- No step with the value where it leads undercuts the value here.
-      relaxed : {R v step S x c : ℕ} → Step network q R v step S x c → R < 2 ^ riderCountOf q → v < nodeCount network
-          → T R v ≤ packedStep c + T S x
-      relaxed {R} {v} {step} {S} {x} {c} s h g = elim (decLt (T S x) noFinish) [
-        | yes l ↦ (
-            let (i, j) = step-inside s h g in
-            let p = table S x i j .met l in
-            omega (arith, table R v h g .lowest _ (packed (go-on s (p .finishes))), p .packs)
-            )
-        | no l ↦ omega (arith, table R v h g .capped)
-      ]
+      module _ {R v : ℕ} (h : R < 2 ^ riderCountOf q) (g : v < nodeCount network) where
+        -- No step with the value where it leads undercuts the value here.
+        relaxed : {step S x c : ℕ} → Step network q R v step S x c → T R v ≤ packedStep c + T S x
+        relaxed {step} {S} {x} {c} s = elim (decLt (T S x) noFinish) [
+          | yes l ↦ (
+              let (i, j) = step-inside s h g in
+              let p = table S x i j .met l in
+              omega (arith, table R v h g .lowest _ (packed (go-on s (p .finishes))), p .packs)
+              )
+          | no l ↦ omega (arith, table R v h g .capped)
+        ]
 
-      -- The first step of a finish of the value here is tight, and what follows has the value where it leads.
-      begun-tight : {R v step c : ℕ} {steps : List ℕ} → R < 2 ^ riderCountOf q → v < nodeCount network → T R v ≡ pack c (suc (length steps))
-          → (o : Begun network q R v step steps c)
-          → Tight network q T R v step (o .S) (o .x) × (T (o .S) (o .x) ≡ pack (o .rest) (length steps))
-      begun-tight {steps = steps} h g e o =
-          let (i, j) = step-inside (o .leads) h g in
-          let low = table (o .S) (o .x) i j .lowest _ (packed (o .finishes)) in
-          let high = relaxed (o .leads) h g in
-          (record { cost = o .here; leads = o .leads; tight = omega arith }, omega arith)
+        -- The first step of a finish of the value here is tight, and what follows has the value where it leads.
+        begun-tight : {step c : ℕ} {steps : List ℕ} → T R v ≡ pack c (suc (length steps)) → (o : Begun network q R v step steps c)
+            → Tight network q T R v step (o .S) (o .x) × (T (o .S) (o .x) ≡ pack (o .rest) (length steps))
+        begun-tight {steps = steps} e o =
+            let (i, j) = step-inside (o .leads) h g in
+            let low = table (o .S) (o .x) i j .lowest _ (packed (o .finishes)) in
+            let high = relaxed (o .leads) in
+            (record { cost = o .here; leads = o .leads; tight = omega arith }, omega arith)
 
-      -- The value is 0 exactly where all is done.
-      value-zero : {R v : ℕ} → R < 2 ^ riderCountOf q → v < nodeCount network → (T R v ≡ 0) ↔ ((R ≡ 0) × (v ≡ q .target))
-      value-zero {R} {v} h g = (
-        (λ e. let p = table R v h g .met (omega arith) in empty (p .steps) (p .finishes) (omega (arith, p .packs))),
-        λ (r, t). omega (arith, table R v h g .lowest _ (packed (arrive {c = 0} r t refl))),
-      )
-        where
-          empty : {c : ℕ} (steps : List ℕ) → Finish network q R v steps c → length steps ≡ 0 → (R ≡ 0) × (v ≡ q .target)
-          empty [] (arrive r t z) e = (r, t)
-          empty (s ∷ steps) f e = absurd (omega arith)
+        -- The value is 0 only where all is done.
+        value-zero : T R v ≡ 0 → (R ≡ 0) × (v ≡ q .target)
+        value-zero e = let p = table R v h g .met (omega arith) in empty (p .steps) (p .finishes) (omega (arith, p .packs))
+          where
+            empty : {c : ℕ} (steps : List ℕ) → Finish network q R v steps c → length steps ≡ 0 → (R ≡ 0) × (v ≡ q .target)
+            empty [] (arrive r t z) e = (r, t)
+            empty (s ∷ steps) f e = absurd (omega arith)
 
-      -- Where a value is neither none nor 0, some step is tight: the first of a finish of this value.
-      pub some-tight : {R v : ℕ} → R < 2 ^ riderCountOf q → v < nodeCount network → T R v < noFinish → 0 < T R v
-          → (step S x : ℕ) × Tight network q T R v step S x
-      some-tight {R} {v} h g l some = let p = table R v h g .met l in start (p .steps) (p .finishes) (p .packs)
-        where
-          start : {c : ℕ} (steps : List ℕ) → Finish network q R v steps c → T R v ≡ pack c (length steps)
-              → (step S x : ℕ) × Tight network q T R v step S x
-          start [] (arrive r t z) e = absurd (omega arith)
-          start (s ∷ steps) f e = let o = begun f in (s, o .S, o .x, begun-tight h g e o .0)
+        -- Where a value is neither none nor 0, some step is tight: the first of a finish of this value.
+        pub some-tight : T R v < noFinish → 0 < T R v → (step S x : ℕ) × Tight network q T R v step S x
+        some-tight l some = let p = table R v h g .met l in start (p .steps) (p .finishes) (p .packs)
+          where
+            start : {c : ℕ} (steps : List ℕ) → Finish network q R v steps c → T R v ≡ pack c (length steps)
+                → (step S x : ℕ) × Tight network q T R v step S x
+            start [] (arrive r t z) e = absurd (omega arith)
+            start (s ∷ steps) f e = let o = begun f in (s, o .S, o .x, begun-tight e o .0)
 
-      first-done : {R v : ℕ} → R < 2 ^ riderCountOf q → v < nodeCount network → T R v ≡ 0 → First network q R v (T R v) []
-      unfolding NoLater
-      first-done h g e =
-          let (r, t) = value-zero h g .0 e in
-          record { cost = 0; finishes = arrive r t refl; packs = e; first = λ other c f same. tt }
+        first-done : T R v ≡ 0 → First network q R v (T R v) []
+        unfolding NoLater
+        first-done e =
+            let (r, t) = value-zero e in
+            record { cost = 0; finishes = arrive r t refl; packs = e; first = λ other c f same. tt }
 
-      -- The lowest tight step, in front of what finishes first from where it leads, finishes first from here. Any other finish of the
-      -- value here starts with a tight step, so with no lower one. If with a higher one, it comes later. If with the same, then what
-      -- follows has the value where the step leads, and comes no earlier than what finishes first from there.
-      first-next : {R v step S x : ℕ} {steps : List ℕ} → R < 2 ^ riderCountOf q → v < nodeCount network → NextStep network q T R v step S x
-          → First network q S x (T S x) steps → First network q R v (T R v) (step ∷ steps)
-      unfolding NoLater
-      first-next {R} {v} {step} {S} {x} {steps} h g next behind =
-          record {
-            cost = next .tight .cost + behind .cost;
-            finishes = go-on (next .tight .leads) (behind .finishes);
-            packs = omega (arith, next .tight .tight, behind .packs);
-            first = first;
-          }
-        where
-          behind-step : {s c : ℕ} {other : List ℕ} → T R v ≡ pack c (suc (length other)) → Begun network q R v s other c
-              → NoLater (step ∷ steps) (s ∷ other)
-          behind-step {s} {other = other} e o =
-              let (tight, rest) = begun-tight h g e o in
-              elim (decLt step s) [
-                | yes l ↦ inl l
-                | no l ↦ (
-                    let same : step ≡ s = omega (arith, next .lowest s (o .S) (o .x) tight) in
-                    let (a, b) = step-same (few-sets (value .riders) h) (next .tight .leads) (rw (← same) at (o .leads)) in
-                    inr (same, behind .first other (o .rest) (rw (← a, ← b) at (o .finishes)) (rw (← a, ← b) at rest))
-                    )
-              ]
+        -- The lowest tight step, in front of what finishes first from where it leads, finishes first from here. Any other finish of
+        -- the value here starts with a tight step, so with no lower one. If with a higher one, it comes later. If with the same, then
+        -- what follows has the value where the step leads, and comes no earlier than what finishes first from there.
+        first-next : {step S x : ℕ} {steps : List ℕ} → NextStep network q T R v step S x → First network q S x (T S x) steps
+            → First network q R v (T R v) (step ∷ steps)
+        unfolding NoLater
+        first-next {step} {S} {x} {steps} next behind =
+            record {
+              cost = next .tight .cost + behind .cost;
+              finishes = go-on (next .tight .leads) (behind .finishes);
+              packs = omega (arith, next .tight .tight, behind .packs);
+              first = first;
+            }
+          where
+            behind-step : {s c : ℕ} {other : List ℕ} → T R v ≡ pack c (suc (length other)) → Begun network q R v s other c
+                → NoLater (step ∷ steps) (s ∷ other)
+            behind-step {s} {other = other} e o =
+                let (tight, rest) = begun-tight e o in
+                elim (decLt step s) [
+                  | yes l ↦ inl l
+                  | no l ↦ (
+                      let same : step ≡ s = omega (arith, next .lowest s (o .S) (o .x) tight) in
+                      let (a, b) = step-same (few-sets (value .riders) h) (next .tight .leads) (rw (← same) at (o .leads)) in
+                      inr (same, behind .first other (o .rest) (rw (← a, ← b) at (o .finishes)) (rw (← a, ← b) at rest))
+                      )
+                ]
 
-          first : (other : List ℕ) (c : ℕ) → Finish network q R v other c → T R v ≡ pack c (length other) → NoLater (step ∷ steps) other
-          first [] c (arrive r t z) e = absurd (omega (arith, next .tight .tight))
-          first (s ∷ other) c f e = behind-step e (begun f)
+            first : (other : List ℕ) (c : ℕ) → Finish network q R v other c → T R v ≡ pack c (length other) → NoLater (step ∷ steps) other
+            first [] c (arrive r t z) e = absurd (omega (arith, next .tight .tight))
+            first (s ∷ other) c f e = behind-step e (begun f)
 
-      best-finish : {R v : ℕ} → R < 2 ^ riderCountOf q → v < nodeCount network → T R v < noFinish
-          → (b : HasFinish network q R v (T R v)) × (length (b .steps) < stepRange)
-      best-finish {R} {v} h g l = elim (least-holds sound value h g (table R v h g)) [
-        | inl b ↦ (b, best-bounded sound value h g (b .best) .few)
-        | inr none ↦ absurd (omega arith)
-      ]
+        best-finish : T R v < noFinish → (b : HasFinish network q R v (T R v)) × (length (b .steps) < stepRange)
+        best-finish l = elim (least-holds sound value h g (table R v h g)) [
+          | inl b ↦ (b, best-bounded sound value h g (b .best) .few)
+          | inr none ↦ absurd (omega arith)
+        ]
 
       tight-count : {R v step S x : ℕ} → R < 2 ^ riderCountOf q → v < nodeCount network → T R v < noFinish → Tight network q T R v step S x
           → T R v % stepRange ≡ suc (T S x % stepRange)

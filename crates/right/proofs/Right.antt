@@ -1,4 +1,4 @@
--- The right plan meets each rider at the earliest nearest position, so its cost is the price of its route.
+-- The right plan meets each rider at the earliest nearest position, so what it costs is what its route is priced at.
 use Prim.Native.Nat.{ℕ, _+_, _*_, _<_, _≤_}
 use mathlib.Core.Path.{_≡_, refl, sym, _∙_, subst}
 use mathlib.Core.List.{List}
@@ -53,8 +53,8 @@ module _ {network : List ℕ} {q : Request} where
         earlier = λ less. u .ahead (t .position) steps (rw place at less) (t .besides);
       }
 
-  -- The right plan's cost is the price of its route, and each rider is met at its meeting position. At a nearer position the rider
-  -- could be met for less, and at an earlier one with the same distance for the same cost, in as many steps, and first in the
+  -- The route of the right plan is priced at the plan's cost, with each rider met where the plan meets them. At a nearer position the
+  -- rider could be met for less, and at an earlier one with the same distance for the same cost, in as many steps, and first in the
   -- dictionary.
   pub right-price : {n : ℕ} {steps : List ℕ} {cost : ℕ} → SoundValue n q → RightPlan network q steps cost
       → Price network q (drivesOf steps) (positionsOf q steps) cost

@@ -130,7 +130,7 @@ module _ {network : List ℕ} {q : Request} where
         let (d, far) = some-distance sound _ (value .nodes j h) walk in
         record { position = position; distance = d; within = within; walks = record { far = far } }
 
-    -- Where there is no plan, no drive passes nodes that all riders can walk to: the drive with positions of such nodes would be a plan.
+    -- Where there is no plan, no route is reached by every rider: with the positions that they reach it would be a plan.
     no-drive : NoPlan network q → NoDrive network q
     no-drive none route driving way reach =
         let At : ℕ → ℕ → ℕ → Type 0 = λ j p d. RiderWalks network q j (nodeAt network (q .source) route p) d in
@@ -147,7 +147,7 @@ module _ {network : List ℕ} {q : Request} where
         }) in
         none (a .steps) _ (a .finishes)
 
-    -- There is no plan exactly when no drive from source to target passes, for each rider, a node that the rider can walk to.
+    -- There is no plan exactly when no route is reached by every rider.
     pub no-plan : NoPlan network q ↔ NoDrive network q
     no-plan = (
       no-drive,

@@ -52,7 +52,7 @@ pub record Along (network : List ℕ) (q : Request) (count : ℕ) (route : List 
   pub drives : drivesOf steps ≡ route
   pub meets : (j : ℕ) → j < count → metAt j steps ≡ position j
 
--- No drive from source to target passes, for each rider, a node that the rider can walk to.
+-- No route is reached by every rider (4.4).
 abbrev pub NoDrive : List ℕ → Request → Type 0
 NoDrive network q =
     (route : List ℕ) (driving : ℕ)
