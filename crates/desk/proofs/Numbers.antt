@@ -1,13 +1,16 @@
 -- What each answer's number is made of is small enough for 64 bits, and a value's number is below 2^63.
-use Prim.Native.Nat.{ℕ, _≤_}
+use Prim.Native.Nat.{ℕ, _≤_, _<_}
 use native.Mathlib.Omega.{arith}
-use mathlib.Core.Path.{_≡_, sym, _∙_}
+use mathlib.Core.Path.{_≡_, refl}
 use mathlib.Core.List.{List, [], _∷_}
 use lib.ListN.{length}
-use Rattle.rules.specs.Checks.{refuse}
+use Rattle.rules.specs.Checks.{firstOf}
+use Rattle.rules.specs.Limits.{mostNodes, mostLinks, stepRange}
 use Rattle.rules.specs.Network.{nodeCount, networkVerdict, networkOf, SoundNetwork}
 use Rattle.rules.specs.Request.{recordChecks, requestVerdict, requestOf, requestValue, SoundValue}
-use Rattle.rules.specs.Answers.{Outcome, gives, refuses, Walked, refused, stranded, priced, PricedRoute, hopeless, planned, Searched}
+use Rattle.rules.specs.Rooms.{Lent}
+use Rattle.rules.specs.Answers.{Outcome, gives, refuses, outcomeOf, networkOutcome, requestOutcome, walkChecks, Walked, refused, stranded}
+use Rattle.rules.specs.Answers.{priced, PricedRoute, hopeless, planned, Searched}
 use Rattle.rules.specs.declared.Refusal.{Refusal}
 use Rattle.rules.specs.declared.NetworkRead.{NetworkRead}
 use Rattle.rules.specs.declared.RequestRead.{RequestRead}
@@ -15,78 +18,96 @@ use Rattle.rules.specs.declared.Verdict.{Verdict}
 use Rattle.rules.specs.declared.Verdict.the-variants.{Accepted, Refused as NotAccepted}
 use Rattle.rules.proofs.Clash.{clash}
 use Rattle.rules.proofs.Order.{accepted-front}
-use Rattle.rules.proofs.AnswerLaws.{verdict-told-apart}
-use Rattle.rules.proofs.Refusals.{same-refusal, Small, network-small, records-small, search-small}
+use Rattle.rules.proofs.Refusals.{Small, network-small, records-small, search-small}
 use Rattle.rules.proofs.SoundNetworkLaws.{network-sound}
 use Rattle.rules.proofs.SoundRequestLaws.{records-sound, value-sound}
-use Rattle.rules.specs.Rooms.{Lent}
+use Rattle.finish.specs.Short.{mostCost}
 use Rattle.finish.proofs.Bounds.{right-plan-bounded}
-use Rattle.desk.specs.Numbers.{refusalNumber, verdictNumber}
+use Rattle.desk.specs.Numbers.{shortRange}
 use Rattle.desk.proofs.Places.{walk-small, price-small}
 
--- ---- a verdict's number
-pub accepted-tells : {verdict : Verdict} (value : ℕ) → verdict ≡ Accepted → value ≡ verdictNumber verdict value
-accepted-tells value told = rw told
+-- Where the answer refuses, the number and the place are small.
+pub record RefusesSmall (answer : Outcome) : Type 0 where
+  pub small : (number place : ℕ) → answer ≡ refuses number place → (number < shortRange) × (place < shortRange)
 
-pub refused-tells : {verdict : Verdict} (value : ℕ) {r : Refusal} → verdict ≡ NotAccepted r → refusalNumber r ≡ verdictNumber verdict value
-refused-tells value told = rw told
+gives-small : (values : List ℕ) → RefusesSmall (gives values)
+gives-small values = record { small = λ number place e. clash (cc) }
 
--- a refusal with the number and the place of a small one
-same-small : (x r : Refusal) → Small 65536 x → refuses (x .number) (x .place) ≡ refuses (r .number) (r .place) → Small 65536 r
-same-small x r small e = same-refusal (Small 65536) small (verdict-told-apart (NotAccepted x) (NotAccepted r) e)
+refuses-small : {n p : ℕ} → n < shortRange → p < shortRange → RefusesSmall (refuses n p)
+refuses-small {n} {p} h g =
+    record {
+      small = λ number place e.
+          let a : n ≡ number = cc in
+          let b : p ≡ place = cc in
+          (omega arith, omega arith);
+    }
+
+verdict-small : (verdict : Verdict) (values : List ℕ) → ((r : Refusal) → verdict ≡ NotAccepted r → Small shortRange r)
+    → RefusesSmall (outcomeOf verdict values)
+verdict-small Accepted values small = gives-small values
+verdict-small (NotAccepted r) values small = refuses-small (small r refl .number) (small r refl .place)
 
 -- ---- reading
 module _ (s : List ℕ) {read : NetworkRead} (is : read ≡ networkOf s) where
-  pub network-refusal : (r : Refusal) → read .verdict ≡ NotAccepted r → Small 65536 r
+  pub network-refusal : RefusesSmall (networkOutcome read)
   unfolding networkOf networkVerdict
-  network-refusal r told = network-small 65536 (omega arith) s .given r (rw is at told)
+  network-refusal = verdict-small (read .verdict) _ (λ r told. network-small shortRange (omega arith) s .given r (rw is at told))
 
-  pub network-sizes : read .verdict ≡ Accepted → (read .n ≤ 512) × (read .m ≤ 2048)
+  pub network-sizes : read .verdict ≡ Accepted → (read .n ≤ mostNodes) × (read .m ≤ mostLinks)
   unfolding networkOf
   network-sizes told =
       let accepted : networkVerdict s ≡ Accepted = rw is at told in
       let sound = network-sound s accepted in
       rw (is, accepted) (sound .nodes, sound .links)
 
-module _ (network s : List ℕ) {read : RequestRead} (is : read ≡ requestOf network s) where
-  pub request-refusal : (r : Refusal) → read .verdict ≡ NotAccepted r → Small 65536 r
-  unfolding requestOf requestVerdict
-  request-refusal r told = records-small 65536 (omega arith) network s .given r (rw is at told)
+pub request-refusal : (network s : List ℕ) {read : RequestRead} → read ≡ requestOf network s → RefusesSmall (requestOutcome read)
+unfolding requestOf requestVerdict
+request-refusal network s {read} is =
+    verdict-small (read .verdict) _ (λ r told. records-small shortRange (omega arith) network s .given r (rw is at told))
 
 -- ---- walking
-pub walk-refusal : {network : List ℕ} {start : ℕ} {before after : List ℕ} {answer : Outcome} → Walked network start before after answer → (r : Refusal) → answer ≡ refuses (r .number) (r .place) → Small 65536 r
-walk-refusal {network} {start} {before} walked r told =
-    walk-small network start (length before) .given r (verdict-told-apart _ (NotAccepted r) (sym (walked .answers) ∙ told))
+pub walk-refusal : {network : List ℕ} {start : ℕ} {before after : List ℕ} {answer : Outcome}
+    → Walked network start before after answer → RefusesSmall answer
+walk-refusal {network} {start} {before} walked =
+    rw (walked .answers)
+    (verdict-small (firstOf (walkChecks network start (length before))) _ (walk-small network start (length before) .given))
 
 -- ---- both records, once the checks of an entry are all passed
-module _ (network request : List ℕ) where
-  both-sound : requestVerdict network request ≡ Accepted → SoundNetwork network × SoundValue (nodeCount network) (requestValue request)
-  both-sound e = let (a, b) = records-sound network request e in (a, value-sound _ request b)
+both-sound : (network request : List ℕ) → requestVerdict network request ≡ Accepted
+    → SoundNetwork network × SoundValue (nodeCount network) (requestValue request)
+both-sound network request e = let (a, b) = records-sound network request e in (a, value-sound _ request b)
 
 -- ---- pricing
-pub price-refusal : {network request route before after : List ℕ} {answer : Outcome} → PricedRoute network request route before after answer → (r : Refusal) → answer ≡ refuses (r .number) (r .place) → Small 65536 r
+pub price-refusal : {network request route before after : List ℕ} {answer : Outcome}
+    → PricedRoute network request route before after answer → RefusesSmall answer
 unfolding requestVerdict
-price-refusal {network} {request} {route} {before} so r told = elim (so .pricing) [
-  | refused x v e m ↦ same-small x r (price-small network request route (length before) .given x v) (sym e ∙ told)
+price-refusal {network} {request} {route} {before} so = elim (so .pricing) [
+  | refused x v e m ↦ (
+      let small = price-small network request route (length before) .given x v in
+      rw e (refuses-small (small .number) (small .place))
+      )
   | stranded j v h s l e m ↦ (
       let riders = both-sound network request (accepted-front (recordChecks network request) _ v) .1 .riders in
-      same-small (refuse 37 j) r (record { number = omega arith; place = omega arith }) (sym e ∙ told)
+      rw e (refuses-small (omega arith) (omega arith))
       )
-  | priced p v c z e ↦ clash (cc)
+  | priced p v c z e ↦ rw e (gives-small (p ∷ []))
 ]
 
 -- ---- the search
 module _ {network : List ℕ} (request : List ℕ) {before after : Lent} {answer : Outcome} (so : Searched network request before after answer) where
-  pub plan-refusal : (r : Refusal) → answer ≡ refuses (r .number) (r .place) → Small 65536 r
-  plan-refusal r told = elim so [
-    | refused x v e m ↦ same-small x r (search-small 65536 (omega arith) network request _ _ _ .given x v) (sym e ∙ told)
-    | hopeless v d t n e s ↦ same-small (refuse 24 0) r (record { number = omega arith; place = omega arith }) (sym e ∙ told)
-    | planned plan cost v d t right e w ↦ clash (cc)
+  pub plan-refusal : RefusesSmall answer
+  plan-refusal = elim so [
+    | refused x v e m ↦ (
+        let small = search-small shortRange (omega arith) network request before .given x v in
+        rw e (refuses-small (small .number) (small .place))
+        )
+    | hopeless v d t n e s ↦ rw e (refuses-small (omega arith) (omega arith))
+    | planned plan cost v d t right e w ↦ rw e (gives-small (cost ∷ length plan ∷ []))
   ]
 
-  pub plan-small : {cost count : ℕ} → answer ≡ gives (cost ∷ count ∷ []) → (cost ≤ 50231811000) × (count ≤ 4095)
+  pub plan-bounded : {cost count : ℕ} → answer ≡ gives (cost ∷ count ∷ []) → (cost ≤ mostCost) × (count < stepRange)
   unfolding requestVerdict
-  plan-small {cost} {count} told = elim so [
+  plan-bounded {cost} {count} told = elim so [
     | refused x v e m ↦ clash (cc)
     | hopeless v d t n e w ↦ clash (cc)
     | planned plan p v d t right e w ↦ (

@@ -2,100 +2,118 @@
 use Prim.Native.Nat.{ℕ, _-_, _/_, _%_, _^_, _≤_, _<_}
 use native.Mathlib.Omega.{arith}
 use mathlib.Core.Path.{_≡_, refl, sym, _∙_, ap}
-use mathlib.Core.List.{List}
+use mathlib.Core.List.{List, [], _∷_}
+use Rattle.rules.specs.Limits.{firstRefusal, stepRange}
 use Rattle.rules.specs.Network.{networkOf}
 use Rattle.rules.specs.Request.{requestOf, riderCountOf}
-use Rattle.rules.specs.Answers.{verdictOutcome, pricedOutcome, plannedOutcome}
-use Rattle.rules.specs.declared.Refusal.{Refusal}
-use Rattle.rules.specs.declared.Verdict.{Verdict}
-use Rattle.rules.specs.declared.Verdict.the-variants.{Accepted, Refused as NotAccepted}
-use Rattle.rules.specs.declared.Priced.the-variants.{Price as Costs, Refused as NotPriced}
-use Rattle.rules.specs.declared.Planned.the-variants.{Plan as Found, Refused as NotPlanned}
-use Rattle.rules.proofs.AnswerLaws.{verdict-told-apart, priced-told-apart, planned-told-apart, walked-unique, priced-route-unique, searched-unique}
-use Rattle.rules.proofs.Refusals.{Small}
 use Rattle.rules.specs.Rooms.{Lent}
+use Rattle.rules.specs.Answers.{Outcome, gives, refuses, networkOutcome, requestOutcome}
+use Rattle.rules.specs.declared.Verdict.the-variants.{Accepted}
+use Rattle.rules.proofs.AnswerLaws.{walked-unique, priced-route-unique, searched-unique}
 use Rattle.records.proofs.RequestLaws.{few-riders}
 use Rattle.price.proofs.Bounds.{pricing-bounded}
-use Rattle.desk.specs.Numbers.{refusalNumber, verdictNumber, networkNumber, requestNumber, pricedNumber, plannedNumber, WalkTold, PriceTold, PlanTold}
-use Rattle.desk.proofs.Numbers.{accepted-tells, refused-tells, network-refusal, network-sizes, request-refusal, walk-refusal, price-refusal, plan-refusal, plan-small}
+use Rattle.desk.specs.Numbers.{shortRange, deskNumber, WalkTold, PriceTold, PlanTold}
+use Rattle.desk.proofs.Numbers.{RefusesSmall, network-refusal, network-sizes, request-refusal, walk-refusal, price-refusal}
+use Rattle.desk.proofs.Numbers.{plan-refusal, plan-bounded}
 
 -- ---- any two results agree
-pub network-told-unique : (s : List ℕ) {x y : ℕ} → x ≡ networkNumber (networkOf s) → y ≡ networkNumber (networkOf s) → x ≡ y
+pub network-told-unique : (s : List ℕ) {x y : ℕ} → x ≡ deskNumber shortRange (networkOutcome (networkOf s))
+    → y ≡ deskNumber shortRange (networkOutcome (networkOf s)) → x ≡ y
 network-told-unique s p q = p ∙ sym q
 
-pub request-told-unique : (network s : List ℕ) {x y : ℕ} → x ≡ requestNumber (requestOf network s) → y ≡ requestNumber (requestOf network s) → x ≡ y
+pub request-told-unique : (network s : List ℕ) {x y : ℕ} → x ≡ deskNumber shortRange (requestOutcome (requestOf network s))
+    → y ≡ deskNumber shortRange (requestOutcome (requestOf network s)) → x ≡ y
 request-told-unique network s p q = p ∙ sym q
 
-pub walk-told-unique : {network : List ℕ} {start : ℕ} {before a b : List ℕ} {x y : ℕ} → WalkTold network start before a x → WalkTold network start before b y → (a ≡ b) × (x ≡ y)
+pub walk-told-unique : {network : List ℕ} {start : ℕ} {before a b : List ℕ} {x y : ℕ} → WalkTold network start before a x
+    → WalkTold network start before b y → (a ≡ b) × (x ≡ y)
 walk-told-unique s t =
     let (room, answer) = walked-unique (s .walked) (t .walked) in
-    (room, s .tells ∙ ap (λ (v : Verdict). verdictNumber v 0) (verdict-told-apart (s .answer) (t .answer) answer) ∙ sym (t .tells))
+    (room, s .tells ∙ ap (deskNumber shortRange) answer ∙ sym (t .tells))
 
-pub price-told-unique : {network request route before a b : List ℕ} {x y : ℕ} → PriceTold network request route before a x → PriceTold network request route before b y → (a ≡ b) × (x ≡ y)
+pub price-told-unique : {network request route before a b : List ℕ} {x y : ℕ} → PriceTold network request route before a x
+    → PriceTold network request route before b y → (a ≡ b) × (x ≡ y)
 price-told-unique s t =
     let (room, answer) = priced-route-unique (s .priced) (t .priced) in
-    (room, s .tells ∙ ap pricedNumber (priced-told-apart (s .answer) (t .answer) answer) ∙ sym (t .tells))
+    (room, s .tells ∙ ap (deskNumber shortRange) answer ∙ sym (t .tells))
 
-pub plan-told-unique : {network : List ℕ} (request : List ℕ) {before a b : Lent} {x y : ℕ} → PlanTold network request before a x → PlanTold network request before b y → (a ≡ b) × (x ≡ y)
+pub plan-told-unique : {network : List ℕ} (request : List ℕ) {before a b : Lent} {x y : ℕ} → PlanTold network request before a x
+    → PlanTold network request before b y → (a ≡ b) × (x ≡ y)
 plan-told-unique request s t =
     let (rooms, answer) = searched-unique request (s .searched) (t .searched) in
-    (rooms, s .tells ∙ ap plannedNumber (planned-told-apart (s .answer) (t .answer) answer) ∙ sym (t .tells))
+    (rooms, s .tells ∙ ap (deskNumber stepRange) answer ∙ sym (t .tells))
 
 -- ---- a value's number is below 2^63
-pub network-value : (s : List ℕ) {number : ℕ} → number ≡ networkNumber (networkOf s) → networkOf s .verdict ≡ Accepted → (number / 65536 ≡ networkOf s .n) × (number % 65536 ≡ networkOf s .m) × (number < 2 ^ 63)
+pub network-value : (s : List ℕ) {number : ℕ} → number ≡ deskNumber shortRange (networkOutcome (networkOf s))
+    → networkOf s .verdict ≡ Accepted
+    → (number / shortRange ≡ networkOf s .n) × (number % shortRange ≡ networkOf s .m) × (number < firstRefusal)
 network-value s so told =
-    let same = so ∙ sym (accepted-tells _ told) in
+    let same = rw told at so in
     let small = network-sizes s refl told in
     (omega (arith, same, small), omega (arith, same, small), omega (arith, same, small))
 
-pub request-value : (network s : List ℕ) {number : ℕ} → number ≡ requestNumber (requestOf network s) → requestOf network s .verdict ≡ Accepted → (number ≡ riderCountOf (requestOf network s .request)) × (number < 2 ^ 63)
+pub request-value : (network s : List ℕ) {number : ℕ} → number ≡ deskNumber shortRange (requestOutcome (requestOf network s))
+    → requestOf network s .verdict ≡ Accepted → (number ≡ riderCountOf (requestOf network s .request)) × (number < firstRefusal)
 request-value network s so told =
-    let same = so ∙ sym (accepted-tells _ told) in
+    let same = rw told at so in
     (same, omega (arith, same, few-riders network s))
 
-pub walk-value : {network : List ℕ} {start : ℕ} {before after : List ℕ} {number : ℕ} (so : WalkTold network start before after number) → so .answer ≡ Accepted → number ≡ 0
-walk-value so told = so .tells ∙ sym (accepted-tells 0 told)
+pub walk-value : {network : List ℕ} {start : ℕ} {before after : List ℕ} {number : ℕ} (so : WalkTold network start before after number)
+    → so .answer ≡ gives (0 ∷ []) → number ≡ 0
+walk-value so told = so .tells ∙ ap (deskNumber shortRange) told
 
-pub price-value : {network request route before after : List ℕ} {number price : ℕ} (so : PriceTold network request route before after number) → so .answer ≡ Costs price → (number ≡ price) × (number < 2 ^ 63)
+pub price-value : {network request route before after : List ℕ} {number price : ℕ} (so : PriceTold network request route before after number)
+    → so .answer ≡ gives (price ∷ []) → (number ≡ price) × (number < firstRefusal)
 price-value {network} {request} {route} so told =
-    let same = so .tells ∙ ap pricedNumber told in
-    (same, omega (arith, same, pricing-bounded network request route _ (so .priced .pricing) (ap pricedOutcome told)))
+    let same = so .tells ∙ ap (deskNumber shortRange) told in
+    (same, omega (arith, same, pricing-bounded network request route _ (so .priced .pricing) told))
 
-pub plan-value : {network : List ℕ} (request : List ℕ) {before after : Lent} {number cost count : ℕ} (so : PlanTold network request before after number) → so .answer ≡ Found cost count → (number / 4096 ≡ cost) × (number % 4096 ≡ count) × (number < 2 ^ 63)
+pub plan-value : {network : List ℕ} (request : List ℕ) {before after : Lent} {number cost count : ℕ}
+    (so : PlanTold network request before after number)
+    → so .answer ≡ gives (cost ∷ count ∷ []) → (number / stepRange ≡ cost) × (number % stepRange ≡ count) × (number < firstRefusal)
 plan-value request so told =
-    let same = so .tells ∙ ap plannedNumber told in
-    let small = plan-small request (so .searched) (ap plannedOutcome told) in
+    let same = so .tells ∙ ap (deskNumber stepRange) told in
+    let small = plan-bounded request (so .searched) told in
     (omega (arith, same, small), omega (arith, same, small), omega (arith, same, small))
 
 -- ---- a refusal's number is not, and tells its place and number
+pub record TellsRefusal (told number place : ℕ) : Type 0 where
+  pub high : firstRefusal ≤ told
+  pub fits : told < 2 ^ 64
+  pub where-it-is : (told - firstRefusal) / shortRange ≡ place
+  pub which : told % shortRange ≡ number
 
--- the place and the number of a refusal, read off what it is told by
-pub record TellsRefusal (number : ℕ) (r : Refusal) : Type 0 where
-  pub high : 2 ^ 63 ≤ number
-  pub fits : number < 2 ^ 64
-  pub place : (number - 2 ^ 63) / 65536 ≡ r .place
-  pub kind : number % 65536 ≡ r .number
-
-reads : {r : Refusal} {number : ℕ} → Small 65536 r → number ≡ refusalNumber r → TellsRefusal number r
-reads small told =
+reads : (range : ℕ) {answer : Outcome} {told number place : ℕ} → RefusesSmall answer → told ≡ deskNumber range answer
+    → answer ≡ refuses number place → TellsRefusal told number place
+reads range {number = number} {place} answer tells refused =
+    let small = answer .small number place refused in
+    let same = tells ∙ ap (deskNumber range) refused in
     record {
-      high = omega arith;
-      fits = omega (arith, small .place, small .number);
-      place = omega (arith, small .number);
-      kind = omega (arith, small .number);
+      high = omega (arith, same);
+      fits = omega (arith, same, small);
+      where-it-is = omega (arith, same, small);
+      which = omega
+          (arith, same, small);
     }
 
-pub network-refused : (s : List ℕ) {number : ℕ} {r : Refusal} → number ≡ networkNumber (networkOf s) → networkOf s .verdict ≡ NotAccepted r → TellsRefusal number r
-network-refused s so told = reads (network-refusal s refl _ told) (so ∙ sym (refused-tells _ told))
+pub network-refused : (s : List ℕ) {told number place : ℕ} → told ≡ deskNumber shortRange (networkOutcome (networkOf s))
+    → networkOutcome (networkOf s) ≡ refuses number place → TellsRefusal told number place
+network-refused s so refused = reads shortRange (network-refusal s refl) so refused
 
-pub request-refused : (network s : List ℕ) {number : ℕ} {r : Refusal} → number ≡ requestNumber (requestOf network s) → requestOf network s .verdict ≡ NotAccepted r → TellsRefusal number r
-request-refused network s so told = reads (request-refusal network s refl _ told) (so ∙ sym (refused-tells _ told))
+pub request-refused : (network s : List ℕ) {told number place : ℕ}
+    → told ≡ deskNumber shortRange (requestOutcome (requestOf network s))
+    → requestOutcome (requestOf network s) ≡ refuses number place → TellsRefusal told number place
+request-refused network s so refused = reads shortRange (request-refusal network s refl) so refused
 
-pub walk-refused : {network : List ℕ} {start : ℕ} {before after : List ℕ} {number : ℕ} {r : Refusal} (so : WalkTold network start before after number) → so .answer ≡ NotAccepted r → TellsRefusal number r
-walk-refused so told = reads (walk-refusal (so .walked) _ (ap verdictOutcome told)) (so .tells ∙ sym (refused-tells 0 told))
+pub walk-refused : {network : List ℕ} {start : ℕ} {before after : List ℕ} {told number place : ℕ} (so : WalkTold network start before after told)
+    → so .answer ≡ refuses number place → TellsRefusal told number place
+walk-refused so refused = reads shortRange (walk-refusal (so .walked)) (so .tells) refused
 
-pub price-refused : {network request route before after : List ℕ} {number : ℕ} {r : Refusal} (so : PriceTold network request route before after number) → so .answer ≡ NotPriced r → TellsRefusal number r
-price-refused so told = reads (price-refusal (so .priced) _ (ap pricedOutcome told)) (so .tells ∙ ap pricedNumber told)
+pub price-refused : {network request route before after : List ℕ} {told number place : ℕ} (so : PriceTold network request route before after told)
+    → so .answer ≡ refuses number place → TellsRefusal told number place
+price-refused so refused = reads shortRange (price-refusal (so .priced)) (so .tells) refused
 
-pub plan-refused : {network : List ℕ} (request : List ℕ) {before after : Lent} {number : ℕ} {r : Refusal} (so : PlanTold network request before after number) → so .answer ≡ NotPlanned r → TellsRefusal number r
-plan-refused request so told = reads (plan-refusal request (so .searched) _ (ap plannedOutcome told)) (so .tells ∙ ap plannedNumber told)
+pub plan-refused : {network : List ℕ} (request : List ℕ) {before after : Lent} {told number place : ℕ}
+    (so : PlanTold network request before after told)
+    → so .answer ≡ refuses number place → TellsRefusal told number place
+plan-refused request so refused = reads stepRange (plan-refusal request (so .searched)) (so .tells) refused

@@ -3,9 +3,11 @@
 use price::price;
 use records::read_network;
 use records::read_request;
+use rules::FIRST_REFUSAL;
 use rules::Planned;
 use rules::Priced;
 use rules::Refusal;
+use rules::STEP_RANGE;
 use rules::Verdict;
 use search::search;
 use walk::walk;
@@ -14,25 +16,29 @@ ghost use mathlib.Core.Path.{_≡_};
 ghost use Rattle.rules.specs.Network.{networkOf};
 ghost use Rattle.rules.specs.Request.{requestOf};
 ghost use Rattle.rules.specs.Rooms.{lent};
-ghost use Rattle.desk.specs.Numbers.{refusalNumber, networkNumber, requestNumber, WalkTold, PriceTold, PlanTold};
+ghost use Rattle.rules.specs.Answers.{refuses, networkOutcome, requestOutcome};
+ghost use Rattle.desk.specs.Numbers.{shortRange, deskNumber, WalkTold, PriceTold, PlanTold};
+
+// What n, and the place of a refusal, count for in the number that tells them.
+const SHORT_RANGE: u64 = 65536;
 
 // Reads a network record: 65,536 × n + m, or its refusal.
 #[no_mangle]
 pub extern "C" fn tivelgor_network(network: &[u8]) -> u64
-    ensures { λ r. ⌜ r ≡ networkNumber (networkOf (now (network .entry))) ⌝ }
+    ensures { λ r. ⌜ r ≡ deskNumber shortRange (networkOutcome (networkOf (now (network .entry)))) ⌝ }
 {
     let read = read_network(network);
     let verdict = read.verdict;
     let Verdict::Refused(r) = verdict else {
-        return 65536 * read.n as u64 + read.m as u64;
+        return SHORT_RANGE * read.n as u64 + read.m as u64;
     };
-    refusal_number(r)
+    refusal_told(r)
 }
 
 // Reads a request record for a network record: its number of riders, or the refusal of the two.
 #[no_mangle]
 pub extern "C" fn tivelgor_request(network: &[u8], request: &[u8]) -> u64
-    ensures { λ r. ⌜ r ≡ requestNumber (requestOf (now (network .entry)) (now (request .entry))) ⌝ }
+    ensures { λ r. ⌜ r ≡ deskNumber shortRange (requestOutcome (requestOf (now (network .entry)) (now (request .entry)))) ⌝ }
 {
     let read = read_request(network, request);
     let verdict = read.verdict;
@@ -40,7 +46,7 @@ pub extern "C" fn tivelgor_request(network: &[u8], request: &[u8]) -> u64
         let q = read.request;
         return q.rider_count as u64;
     };
-    refusal_number(r)
+    refusal_told(r)
 }
 
 // Fills the first n places of `distances` with the walking distances from `start`: 0, or its refusal.
@@ -52,7 +58,7 @@ pub extern "C" fn tivelgor_walk(network: &[u8], start: usize, distances: &mut [u
     let Verdict::Refused(r) = verdict else {
         return 0;
     };
-    refusal_number(r)
+    refusal_told(r)
 }
 
 // Prices a route of link numbers and writes the meeting positions: the price, or its refusal.
@@ -71,7 +77,7 @@ pub extern "C" fn tivelgor_price(
             // An answer is one of the two, so this is never taken.
             return 0;
         };
-        return refusal_number(r);
+        return refusal_told(r);
     };
     price
 }
@@ -85,7 +91,9 @@ pub extern "C" fn tivelgor_search(
     table: &mut [u64],
     steps: &mut [u16],
 ) -> u64
-    ensures { λ r. ⌜ PlanTold (now (network .entry)) (now (request .entry)) (lent (now (distances .entry)) (now (table .entry)) (now (steps .entry))) (lent (now (distances .exit)) (now (table .exit)) (now (steps .exit))) r ⌝ }
+    ensures { λ r. ⌜ PlanTold (now (network .entry)) (now (request .entry))
+        (lent (now (distances .entry)) (now (table .entry)) (now (steps .entry)))
+        (lent (now (distances .exit)) (now (table .exit)) (now (steps .exit))) r ⌝ }
 {
     let answer = search(network, request, distances, table, steps);
     let Planned::Plan { cost, count } = answer else {
@@ -93,15 +101,15 @@ pub extern "C" fn tivelgor_search(
             // An answer is one of the two, so this is never taken.
             return 0;
         };
-        return refusal_number(r);
+        return refusal_told(r);
     };
-    4096 * cost + count as u64
+    STEP_RANGE * cost + count as u64
 }
 
-// The number of a refusal.
-fn refusal_number(r: Refusal) -> u64
-    requires { ⌜ r .place < 65536 ⌝ }
-    ensures { λ x. ⌜ x ≡ refusalNumber r ⌝ }
+// The answer that tells a refusal.
+fn refusal_told(r: Refusal) -> u64
+    requires { ⌜ r .place < shortRange ⌝ }
+    ensures { λ x. ⌜ x ≡ deskNumber shortRange (refuses (r .number) (r .place)) ⌝ }
 {
-    9223372036854775808 + 65536 * r.place as u64 + r.number as u64
+    FIRST_REFUSAL + SHORT_RANGE * r.place as u64 + r.number as u64
 }

@@ -1,7 +1,8 @@
 use native.Mathlib.Omega.{arith}
 use mathlib.Core.Path.{_∙_, ap}
-use Rattle.desk.specs.Numbers.{networkNumber}
-use Rattle.desk.proofs.Numbers.{accepted-tells, refused-tells, network-refusal, network-sizes}
+use mathlib.Core.List.{[], _∷_}
+use Rattle.rules.specs.Answers.{outcomeOf}
+use Rattle.desk.proofs.Numbers.{network-refusal, network-sizes}
 use borrow.Author.Needs.{needs}
 use Rattle.desk.proofs.tivelgor_network.Statement.{statement}
 use Rattle.desk.proofs.tivelgor_network.Tie as tie
@@ -13,13 +14,17 @@ add-result : tie.Need-add-result
 add-result c = omega (arith, network-sizes _ (c .before .before .read-network .ensures) (c .enum-told .given .1))
 
 returns : tie.Need-returns
-returns c = accepted-tells _ (c .enum-told .given .1) ∙ ap networkNumber (c .before .before .read-network .ensures)
+returns c = rw (← c .before .before .read-network .ensures, c .enum-told .given .1)
 
-refusal-number-requires : tie.Need-refusal-number-requires
-refusal-number-requires c κs = network-refusal _ (c .before .before .before .read-network .ensures) _ (c .before .verdict .given .1) .place
+refusal-told-requires : tie.Need-refusal-told-requires
+refusal-told-requires c κs =
+    let read = c .before .before .before .read-network in
+    network-refusal _ (read .ensures) .small _ _ (ap (λ v. outcomeOf v (read .result .n ∷ read .result .m ∷ [])) (c .before .verdict .given .1)) .1
 
 returns-2 : tie.Need-returns-2
-returns-2 c = c .refusal-number .ensures ∙ refused-tells _ (c .before .before .verdict .given .1) ∙ ap networkNumber (c .before .before .before .before .read-network .ensures)
+returns-2 c =
+    let read = c .before .before .before .before .read-network in
+    c .refusal-told .ensures ∙ rw (← read .ensures, c .before .before .verdict .given .1)
 
 pub tivelgor-network-spec : {M : Type 1} → statement M
 tivelgor-network-spec =
@@ -31,5 +36,5 @@ tivelgor-network-spec =
     mul-result
     add-result
     returns
-    refusal-number-requires
+    refusal-told-requires
     returns-2)

@@ -1,18 +1,25 @@
 use mathlib.Core.Path.{_∙_, ap}
-use Rattle.desk.specs.Numbers.{requestNumber}
-use Rattle.desk.proofs.Numbers.{accepted-tells, refused-tells, request-refusal}
+use mathlib.Core.List.{[], _∷_}
+use Rattle.rules.specs.Request.{riderCountOf}
+use Rattle.rules.specs.Answers.{outcomeOf}
+use Rattle.desk.proofs.Numbers.{request-refusal}
 use borrow.Author.Needs.{needs}
 use Rattle.desk.proofs.tivelgor_request.Statement.{statement}
 use Rattle.desk.proofs.tivelgor_request.Tie as tie
 
 returns : tie.Need-returns
-returns c = accepted-tells _ (c .before .enum-told .given .1) ∙ ap requestNumber (c .before .before .before .read-request .ensures)
+returns c = rw (← c .before .before .before .read-request .ensures, c .before .enum-told .given .1)
 
-refusal-number-requires : tie.Need-refusal-number-requires
-refusal-number-requires c κs = request-refusal _ _ (c .before .before .before .read-request .ensures) _ (c .before .verdict .given .1) .place
+refusal-told-requires : tie.Need-refusal-told-requires
+refusal-told-requires c κs =
+    let read = c .before .before .before .read-request in
+    request-refusal _ _ (read .ensures) .small _ _ (ap (λ v. outcomeOf v (riderCountOf (read .result .request) ∷ []))
+    (c .before .verdict .given .1)) .1
 
 returns-2 : tie.Need-returns-2
-returns-2 c = c .refusal-number .ensures ∙ refused-tells _ (c .before .before .verdict .given .1) ∙ ap requestNumber (c .before .before .before .before .read-request .ensures)
+returns-2 c =
+    let read = c .before .before .before .before .read-request in
+    c .refusal-told .ensures ∙ rw (← read .ensures, c .before .before .verdict .given .1)
 
 pub tivelgor-request-spec : {M : Type 1} → statement M
 tivelgor-request-spec =
@@ -22,5 +29,5 @@ tivelgor-request-spec =
     (λ c. search needs)
     (λ c. search needs)
     returns
-    refusal-number-requires
+    refusal-told-requires
     returns-2)

@@ -1,18 +1,30 @@
-use mathlib.Core.Path.{_∙_, ap}
+use mathlib.Core.Path.{sym, _∙_, ap}
 use Rattle.rules.specs.Answers.{verdictOutcome}
-use Rattle.desk.proofs.Numbers.{accepted-tells, refused-tells, walk-refusal}
+use Rattle.desk.specs.Numbers.{shortRange, deskNumber}
+use Rattle.desk.proofs.Numbers.{walk-refusal}
 use borrow.Author.Needs.{needs}
 use Rattle.desk.proofs.tivelgor_walk.Statement.{statement}
 use Rattle.desk.proofs.tivelgor_walk.Tie as tie
 
 returns : tie.Need-returns
-returns c = record { answer = c .before .before .before .before .walk .result; walked = c .before .before .before .before .walk .ensures; tells = accepted-tells 0 (c .enum-told .given .1) }
+returns c =
+    let at-walk = c .before .before .before .before in
+    record { answer = _; walked = at-walk .walk .ensures; tells = sym (ap (λ v. deskNumber shortRange (verdictOutcome v)) (c .enum-told .given .1)) }
 
-refusal-number-requires : tie.Need-refusal-number-requires
-refusal-number-requires c κs = walk-refusal (c .before .before .before .before .before .walk .ensures) _ (ap verdictOutcome (c .before .verdict .given .1)) .place
+refusal-told-requires : tie.Need-refusal-told-requires
+refusal-told-requires c κs =
+    let at-walk = c .before .before .before .before .before in
+    walk-refusal (at-walk .walk .ensures) .small _ _ (ap verdictOutcome (c .before .verdict .given .1)) .1
 
 returns-2 : tie.Need-returns-2
-returns-2 c = record { answer = c .before .before .before .before .before .before .walk .result; walked = c .before .before .before .before .before .before .walk .ensures; tells = c .refusal-number .ensures ∙ refused-tells 0 (c .before .before .verdict .given .1) }
+returns-2 c =
+    let at-before = c .before .before .before .before .before in
+    let at-walk = at-before .before in
+    record {
+      answer = _;
+      walked = at-walk .walk .ensures;
+      tells = c .refusal-told .ensures ∙ sym (ap (λ v. deskNumber shortRange (verdictOutcome v)) (c .before .before .verdict .given .1));
+    }
 
 pub tivelgor-walk-spec : {M : Type 1} → statement M
 tivelgor-walk-spec =
@@ -23,6 +35,6 @@ tivelgor-walk-spec =
     (λ c. search needs)
     (λ c. search needs)
     returns
-    refusal-number-requires
+    refusal-told-requires
     (λ c. search needs)
     returns-2)
