@@ -1,3 +1,4 @@
+-- Nothing is claimed of the loop but that it ends: i rises to the number of links' numbers.
 use Prim.Native.Nat.{_-_}
 use borrow.Author.Needs.{needs}
 use Rattle.searches.proofs.rows.put_links.Statement.{statement}

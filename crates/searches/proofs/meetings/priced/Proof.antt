@@ -1,0 +1,36 @@
+-- Nothing is claimed of the loop but that it ends: j rises to the number of riders.
+use Prim.Native.Nat.{_-_}
+use borrow.Author.Needs.{needs}
+use Rattle.searches.proofs.meetings.priced.Statement.{statement}
+use Rattle.searches.proofs.meetings.priced.Tie as tie
+
+abbrev Inv-loop : tie.InvT-loop
+Inv-loop town distances riders drive price₀ positions₀ j₀ price positions j = Unit
+
+abbrev μ-loop : tie.MeasureT-loop
+μ-loop town distances riders drive price₀ positions₀ j₀ price positions j = 7 - j
+
+pub priced-spec : {M : Type 1} → statement M
+priced-spec =
+    tie.close
+    (tie.spec
+    Inv-loop
+    μ-loop
+    (λ c. search needs)
+    (λ c κs. search needs)
+    (λ c κs. search needs)
+    (λ c. search needs)
+    (λ c κs. search needs)
+    (λ c. search needs)
+    (λ c. search needs)
+    (λ c. search needs)
+    (λ c. search needs)
+    (λ c. search needs)
+    (λ c κs. search needs)
+    (λ c κs. search needs)
+    (λ c. search needs)
+    (λ c. search needs)
+    (λ c. search needs)
+    (λ c. search needs)
+    (λ c. search needs)
+    (λ c. search needs))

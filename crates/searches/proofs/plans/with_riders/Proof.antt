@@ -1,0 +1,26 @@
+-- Nothing is claimed of the loop but that it ends: j rises to the number of riders.
+use Prim.Native.Nat.{_-_}
+use borrow.Author.Needs.{needs}
+use Rattle.searches.proofs.plans.with_riders.Statement.{statement}
+use Rattle.searches.proofs.plans.with_riders.Tie as tie
+
+abbrev Inv-loop : tie.InvT-loop
+Inv-loop position positions plan₀ j₀ plan j = Unit
+
+abbrev μ-loop : tie.MeasureT-loop
+μ-loop position positions plan₀ j₀ plan j = 7 - j
+
+pub with-riders-spec : {M : Type 1} → statement M
+with-riders-spec =
+    tie.close
+    (tie.spec
+    Inv-loop
+    μ-loop
+    (λ c. search needs)
+    (λ c. search needs)
+    (λ c. search needs)
+    (λ c κs. search needs)
+    (λ c. search needs)
+    (λ c. search needs)
+    (λ c. search needs)
+    (λ c. search needs))
