@@ -1,5 +1,5 @@
 // What the search answers to a row of numbers and leaves in the rooms, and whether that is right.
-use crate::records::*;
+use crate::record_bytes::*;
 use crate::rows::*;
 use libc::STDOUT_FILENO;
 use rules::Planned;

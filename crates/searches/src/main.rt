@@ -10,7 +10,7 @@ mod networks;
 mod own_cases;
 mod paths;
 mod plans;
-mod records;
+mod record_bytes;
 mod refusals;
 mod rooms;
 mod rows;

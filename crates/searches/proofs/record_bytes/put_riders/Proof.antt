@@ -1,17 +1,17 @@
--- Nothing is claimed of the loop but that it ends: i rises to the number of links' numbers.
+-- Nothing is claimed of the loop but that it ends: i rises to the number of riders' numbers.
 use Prim.Native.Nat.{_-_}
 use borrow.Author.Needs.{needs}
-use Rattle.searches.proofs.records.put_links.Statement.{statement}
-use Rattle.searches.proofs.records.put_links.Tie as tie
+use Rattle.searches.proofs.record_bytes.put_riders.Statement.{statement}
+use Rattle.searches.proofs.record_bytes.put_riders.Tie as tie
 
 abbrev Inv-loop : tie.InvT-loop
 Inv-loop bytes₀ town i₀ bytes i = Unit
 
 abbrev μ-loop : tie.MeasureT-loop
-μ-loop bytes₀ town i₀ bytes i = 48 - i
+μ-loop bytes₀ town i₀ bytes i = 14 - i
 
-pub put-links-spec : {M : Type 1} → statement M
-put-links-spec =
+pub put-riders-spec : {M : Type 1} → statement M
+put-riders-spec =
     tie.close
     (tie.spec
     Inv-loop
@@ -21,9 +21,11 @@ put-links-spec =
     (λ c. search needs)
     (λ c. search needs)
     (λ c. search needs)
-    (λ c. search needs)
-    (λ c. search needs)
     (λ c κs. search needs)
+    (λ c. search needs)
+    (λ c. search needs)
+    (λ c. search needs)
+    (λ c. search needs)
     (λ c. search needs)
     (λ c. search needs)
     (λ c. search needs)

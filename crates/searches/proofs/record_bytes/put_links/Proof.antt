@@ -1,17 +1,17 @@
--- Nothing is claimed of the loop but that it ends: i rises to the number of riders' numbers.
+-- Nothing is claimed of the loop but that it ends: i rises to the number of links' numbers.
 use Prim.Native.Nat.{_-_}
 use borrow.Author.Needs.{needs}
-use Rattle.searches.proofs.records.put_riders.Statement.{statement}
-use Rattle.searches.proofs.records.put_riders.Tie as tie
+use Rattle.searches.proofs.record_bytes.put_links.Statement.{statement}
+use Rattle.searches.proofs.record_bytes.put_links.Tie as tie
 
 abbrev Inv-loop : tie.InvT-loop
 Inv-loop bytes₀ town i₀ bytes i = Unit
 
 abbrev μ-loop : tie.MeasureT-loop
-μ-loop bytes₀ town i₀ bytes i = 14 - i
+μ-loop bytes₀ town i₀ bytes i = 48 - i
 
-pub put-riders-spec : {M : Type 1} → statement M
-put-riders-spec =
+pub put-links-spec : {M : Type 1} → statement M
+put-links-spec =
     tie.close
     (tie.spec
     Inv-loop
@@ -21,11 +21,9 @@ put-riders-spec =
     (λ c. search needs)
     (λ c. search needs)
     (λ c. search needs)
+    (λ c. search needs)
+    (λ c. search needs)
     (λ c κs. search needs)
-    (λ c. search needs)
-    (λ c. search needs)
-    (λ c. search needs)
-    (λ c. search needs)
     (λ c. search needs)
     (λ c. search needs)
     (λ c. search needs)
