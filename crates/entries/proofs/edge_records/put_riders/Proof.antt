@@ -1,0 +1,26 @@
+-- Nothing is claimed of the loop but that it ends: j rises to the number of riders.
+use Prim.Native.Nat.{_-_}
+use borrow.Author.Needs.{needs}
+use Rattle.entries.proofs.edge_records.put_riders.Statement.{statement}
+use Rattle.entries.proofs.edge_records.put_riders.Tie as tie
+
+abbrev Inv-loop : tie.InvT-loop
+Inv-loop bytes₀ request j₀ bytes j = Unit
+
+abbrev μ-loop : tie.MeasureT-loop
+μ-loop bytes₀ request j₀ bytes j = 8 - j
+
+pub put-riders-spec : {M : Type 1} → statement M
+put-riders-spec =
+    tie.close
+    (tie.spec
+    Inv-loop
+    μ-loop
+    (λ c. search needs)
+    (λ c. search needs)
+    (λ c. search needs)
+    (λ c κs. search needs)
+    (λ c. search needs)
+    (λ c. search needs)
+    (λ c. search needs)
+    (λ c. search needs))
