@@ -1,6 +1,7 @@
 -- Nothing is claimed of the loop but that it ends: i rises to the number of places.
 use Prim.Native.Nat.{_-_}
 use borrow.Author.Needs.{needs}
+use Rattle.entries.proofs.Four.{four}
 use Rattle.entries.proofs.answers.first_difference.Statement.{statement}
 use Rattle.entries.proofs.answers.first_difference.Tie as tie
 
@@ -12,17 +13,4 @@ abbrev μ-loop : tie.MeasureT-loop
 
 pub first-difference-spec : {M : Type 1} → statement M
 first-difference-spec =
-    tie.close
-    (tie.spec
-    Inv-loop
-    μ-loop
-    (λ c. search needs)
-    (λ c. search needs)
-    (λ c. search needs)
-    (λ c. search needs)
-    (λ c. search needs)
-    (λ c. search needs)
-    (λ c. search needs)
-    (λ c. search needs)
-    (λ c. search needs)
-    (λ c. search needs))
+    tie.close (four (four (tie.spec Inv-loop μ-loop) (search needs)) (search needs) (search needs) (search needs))

@@ -1,6 +1,7 @@
 -- Nothing is claimed of the loop but that it ends: j rises to the number of riders.
 use Prim.Native.Nat.{_-_}
 use borrow.Author.Needs.{needs}
+use Rattle.entries.proofs.Four.{four}
 use Rattle.entries.proofs.edge_records.put_riders.Statement.{statement}
 use Rattle.entries.proofs.edge_records.put_riders.Tie as tie
 
@@ -12,15 +13,4 @@ abbrev μ-loop : tie.MeasureT-loop
 
 pub put-riders-spec : {M : Type 1} → statement M
 put-riders-spec =
-    tie.close
-    (tie.spec
-    Inv-loop
-    μ-loop
-    (λ c. search needs)
-    (λ c. search needs)
-    (λ c. search needs)
-    (λ c κs. search needs)
-    (λ c. search needs)
-    (λ c. search needs)
-    (λ c. search needs)
-    (λ c. search needs))
+    tie.close (four (four (tie.spec Inv-loop μ-loop) (search needs)) (search needs))

@@ -1,6 +1,7 @@
 -- Nothing is claimed of the loop but that it ends: i rises to the number of a link's bytes.
 use Prim.Native.Nat.{_-_}
 use borrow.Author.Needs.{needs}
+use Rattle.entries.proofs.Four.{four}
 use Rattle.entries.proofs.link_reader.of_link.Statement.{statement}
 use Rattle.entries.proofs.link_reader.of_link.Tie as tie
 
@@ -12,19 +13,4 @@ abbrev μ-loop : tie.MeasureT-loop
 
 pub of-link-spec : {M : Type 1} → statement M
 of-link-spec =
-    tie.close
-    (tie.spec
-    Inv-loop
-    μ-loop
-    (λ c κs. search needs)
-    (λ c. search needs)
-    (λ c. search needs)
-    (λ c. search needs)
-    (λ c κs. search needs)
-    (λ c. search needs)
-    (λ c. search needs)
-    (λ c. search needs)
-    (λ c. search needs)
-    (λ c. search needs)
-    (λ c. search needs)
-    (λ c. search needs))
+    tie.close (four (four (four (tie.spec Inv-loop μ-loop) (search needs)) (search needs)) (search needs))

@@ -1,6 +1,7 @@
 -- Nothing is claimed of the loop but that it ends: j rises to the number of riders.
 use Prim.Native.Nat.{_-_}
 use borrow.Author.Needs.{needs}
+use Rattle.entries.proofs.Four.{four}
 use Rattle.entries.proofs.request_reader.of_request.Statement.{statement}
 use Rattle.entries.proofs.request_reader.of_request.Tie as tie
 
@@ -13,27 +14,5 @@ abbrev μ-loop : tie.MeasureT-loop
 pub of-request-spec : {M : Type 1} → statement M
 of-request-spec =
     tie.close
-    (tie.spec
-    Inv-loop
-    μ-loop
-    (λ c κs. search needs)
-    (λ c κs. search needs)
-    (λ c. search needs)
-    (λ c. search needs)
-    (λ c. search needs)
-    (λ c. search needs)
-    (λ c. search needs)
-    (λ c. search needs)
-    (λ c. search needs)
-    (λ c. search needs)
-    (λ c. search needs)
-    (λ c. search needs)
-    (λ c. search needs)
-    (λ c. search needs)
-    (λ c. search needs)
-    (λ c. search needs)
-    (λ c. search needs)
-    (λ c. search needs)
-    (λ c. search needs)
-    (λ c. search needs)
-    (λ c. search needs))
+    (four (four (four (four (four (tie.spec Inv-loop μ-loop) (search needs)) (search needs)) (search needs)) (search needs))
+    (search needs) (search needs))

@@ -1,6 +1,7 @@
 -- Nothing is claimed of the loop but that it ends: i rises to the number of places.
 use Prim.Native.Nat.{_-_}
 use borrow.Author.Needs.{needs}
+use Rattle.searches.proofs.Four.{four}
 use Rattle.searches.proofs.cases.put_rooms.Statement.{statement}
 use Rattle.searches.proofs.cases.put_rooms.Tie as tie
 
@@ -12,17 +13,4 @@ abbrev μ-loop : tie.MeasureT-loop
 
 pub put-rooms-spec : {M : Type 1} → statement M
 put-rooms-spec =
-    tie.close
-    (tie.spec
-    Inv-loop
-    μ-loop
-    (λ c. search needs)
-    (λ c. search needs)
-    (λ c κs. search needs)
-    (λ c. search needs)
-    (λ c. search needs)
-    (λ c. search needs)
-    (λ c. search needs)
-    (λ c. search needs)
-    (λ c. search needs)
-    (λ c. search needs))
+    tie.close (four (four (tie.spec Inv-loop μ-loop) (search needs)) (search needs) (search needs) (search needs))

@@ -1,6 +1,7 @@
 -- Nothing is claimed of the loop but that it ends: the number of listed drives rises to its bound.
 use Prim.Native.Nat.{_-_}
 use borrow.Author.Needs.{needs}
+use Rattle.searches.proofs.Four.{four}
 use Rattle.searches.proofs.finishes.best_finish.Statement.{statement}
 use Rattle.searches.proofs.finishes.best_finish.Tie as tie
 
@@ -12,20 +13,4 @@ abbrev μ-loop : tie.MeasureT-loop
 
 pub best-finish-spec : {M : Type 1} → statement M
 best-finish-spec =
-    tie.close
-    (tie.spec
-    Inv-loop
-    μ-loop
-    (λ c κs. search needs)
-    (λ c κs. search needs)
-    (λ c κs. search needs)
-    (λ c. search needs)
-    (λ c κs. search needs)
-    (λ c κs. search needs)
-    (λ c κs. search needs)
-    (λ c. search needs)
-    (λ c. search needs)
-    (λ c. search needs)
-    (λ c. search needs)
-    (λ c κs. search needs)
-    (λ c. search needs))
+    tie.close (four (four (four (tie.spec Inv-loop μ-loop) (search needs)) (search needs)) (search needs) (search needs))

@@ -1,6 +1,7 @@
 -- Nothing is claimed of the loop but that it ends: j rises to the number of riders.
 use Prim.Native.Nat.{_-_}
 use borrow.Author.Needs.{needs}
+use Rattle.searches.proofs.Four.{four}
 use Rattle.searches.proofs.meetings.priced.Statement.{statement}
 use Rattle.searches.proofs.meetings.priced.Tie as tie
 
@@ -13,24 +14,5 @@ abbrev μ-loop : tie.MeasureT-loop
 pub priced-spec : {M : Type 1} → statement M
 priced-spec =
     tie.close
-    (tie.spec
-    Inv-loop
-    μ-loop
-    (λ c. search needs)
-    (λ c κs. search needs)
-    (λ c κs. search needs)
-    (λ c. search needs)
-    (λ c κs. search needs)
-    (λ c. search needs)
-    (λ c. search needs)
-    (λ c. search needs)
-    (λ c. search needs)
-    (λ c. search needs)
-    (λ c κs. search needs)
-    (λ c κs. search needs)
-    (λ c. search needs)
-    (λ c. search needs)
-    (λ c. search needs)
-    (λ c. search needs)
-    (λ c. search needs)
-    (λ c. search needs))
+    (four (four (four (four (tie.spec Inv-loop μ-loop) (search needs)) (search needs)) (search needs))
+    (search needs) (search needs) (search needs))

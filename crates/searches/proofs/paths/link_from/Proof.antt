@@ -1,6 +1,7 @@
 -- Nothing is claimed of the loop but that it ends: k rises to the number of links.
 use Prim.Native.Nat.{_-_}
 use borrow.Author.Needs.{needs}
+use Rattle.searches.proofs.Four.{four}
 use Rattle.searches.proofs.paths.link_from.Statement.{statement}
 use Rattle.searches.proofs.paths.link_from.Tie as tie
 
@@ -12,14 +13,4 @@ abbrev μ-loop : tie.MeasureT-loop
 
 pub link-from-spec : {M : Type 1} → statement M
 link-from-spec =
-    tie.close
-    (tie.spec
-    Inv-loop
-    μ-loop
-    (λ c. search needs)
-    (λ c κs. search needs)
-    (λ c. search needs)
-    (λ c. search needs)
-    (λ c. search needs)
-    (λ c. search needs)
-    (λ c. search needs))
+    tie.close (four (tie.spec Inv-loop μ-loop) (search needs) (search needs) (search needs) (search needs))

@@ -1,6 +1,7 @@
 -- Nothing is claimed of the loop but that it ends: i rises to the number of links.
 use Prim.Native.Nat.{_-_}
 use borrow.Author.Needs.{needs}
+use Rattle.searches.proofs.Four.{four}
 use Rattle.searches.proofs.paths.sum.Statement.{statement}
 use Rattle.searches.proofs.paths.sum.Tie as tie
 
@@ -12,15 +13,4 @@ abbrev μ-loop : tie.MeasureT-loop
 
 pub sum-spec : {M : Type 1} → statement M
 sum-spec =
-    tie.close
-    (tie.spec
-    Inv-loop
-    μ-loop
-    (λ c. search needs)
-    (λ c κs. search needs)
-    (λ c κs. search needs)
-    (λ c κs. search needs)
-    (λ c. search needs)
-    (λ c. search needs)
-    (λ c. search needs)
-    (λ c. search needs))
+    tie.close (four (four (tie.spec Inv-loop μ-loop) (search needs)) (search needs))

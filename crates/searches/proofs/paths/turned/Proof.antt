@@ -1,5 +1,6 @@
 -- Nothing is claimed of the loop but that it ends: i falls to 0.
 use borrow.Author.Needs.{needs}
+use Rattle.searches.proofs.Four.{four}
 use Rattle.searches.proofs.paths.turned.Statement.{statement}
 use Rattle.searches.proofs.paths.turned.Tie as tie
 
@@ -11,18 +12,4 @@ abbrev μ-loop : tie.MeasureT-loop
 
 pub turned-spec : {M : Type 1} → statement M
 turned-spec =
-    tie.close
-    (tie.spec
-    Inv-loop
-    μ-loop
-    (λ c. search needs)
-    (λ c. search needs)
-    (λ c κs. search needs)
-    (λ c κs. search needs)
-    (λ c. search needs)
-    (λ c κs. search needs)
-    (λ c κs. search needs)
-    (λ c. search needs)
-    (λ c. search needs)
-    (λ c. search needs)
-    (λ c. search needs))
+    tie.close (four (four (tie.spec Inv-loop μ-loop) (search needs)) (search needs) (search needs) (search needs) (search needs))

@@ -1,6 +1,7 @@
 -- Nothing is claimed of the loop but that it ends: i rises to the number of links.
 use Prim.Native.Nat.{_-_}
 use borrow.Author.Needs.{needs}
+use Rattle.searches.proofs.Four.{four}
 use Rattle.searches.proofs.plans.of_drive.Statement.{statement}
 use Rattle.searches.proofs.plans.of_drive.Tie as tie
 
@@ -12,18 +13,4 @@ abbrev μ-loop : tie.MeasureT-loop
 
 pub of-drive-spec : {M : Type 1} → statement M
 of-drive-spec =
-    tie.close
-    (tie.spec
-    Inv-loop
-    μ-loop
-    (λ c κs. search needs)
-    (λ c. search needs)
-    (λ c κs. search needs)
-    (λ c κs. search needs)
-    (λ c. search needs)
-    (λ c κs. search needs)
-    (λ c. search needs)
-    (λ c. search needs)
-    (λ c. search needs)
-    (λ c κs. search needs)
-    (λ c. search needs))
+    tie.close (four (four (tie.spec Inv-loop μ-loop) (search needs)) (search needs) (search needs) (search needs) (search needs))

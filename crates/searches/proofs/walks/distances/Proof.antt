@@ -1,6 +1,7 @@
 -- Nothing is claimed of the loop but that it ends: j rises to the number of riders.
 use Prim.Native.Nat.{_-_}
 use borrow.Author.Needs.{needs}
+use Rattle.searches.proofs.Four.{four}
 use Rattle.searches.proofs.walks.distances.Statement.{statement}
 use Rattle.searches.proofs.walks.distances.Tie as tie
 
@@ -12,5 +13,4 @@ abbrev μ-loop : tie.MeasureT-loop
 
 pub distances-spec : {M : Type 1} → statement M
 distances-spec =
-    tie.close
-    (tie.spec Inv-loop μ-loop (λ c. search needs) (λ c κs. search needs) (λ c. search needs) (λ c. search needs) (λ c. search needs) (λ c. search needs))
+    tie.close (four (tie.spec Inv-loop μ-loop) (search needs) (search needs) (search needs))

@@ -1,6 +1,7 @@
 -- Nothing is claimed of the loop but that it ends: the number of listed walks rises to its bound.
 use Prim.Native.Nat.{_-_}
 use borrow.Author.Needs.{needs}
+use Rattle.searches.proofs.Four.{four}
 use Rattle.searches.proofs.walks.list_walks.Statement.{statement}
 use Rattle.searches.proofs.walks.list_walks.Tie as tie
 
@@ -13,24 +14,5 @@ abbrev μ-loop : tie.MeasureT-loop
 pub list-walks-spec : {M : Type 1} → statement M
 list-walks-spec =
     tie.close
-    (tie.spec
-    Inv-loop
-    μ-loop
-    (λ c. search needs)
-    (λ c. search needs)
-    (λ c. search needs)
-    (λ c. search needs)
-    (λ c κs. search needs)
-    (λ c. search needs)
-    (λ c κs. search needs)
-    (λ c κs. search needs)
-    (λ c κs. search needs)
-    (λ c κs. search needs)
-    (λ c κs. search needs)
-    (λ c κs. search needs)
-    (λ c. search needs)
-    (λ c. search needs)
-    (λ c. search needs)
-    (λ c. search needs)
-    (λ c κs. search needs)
-    (λ c. search needs))
+    (four (four (four (four (tie.spec Inv-loop μ-loop) (search needs)) (search needs)) (search needs))
+    (search needs) (search needs) (search needs))
