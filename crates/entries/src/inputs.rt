@@ -1,7 +1,7 @@
 // Where the network of an input ends.
 use crate::answers::*;
 use crate::build::first;
-use crate::edge_records::*;
+use crate::edge_records::network_bytes;
 
 pub const CASES: usize = 14;
 
@@ -32,14 +32,7 @@ fn row_at(i: usize) -> [usize; 4] {
 // Whether case i passes. Says what is wrong where it does not.
 pub fn case_passes(i: usize) -> bool {
     let row = row_at(i);
-    let bytes = network_bytes(Network {
-        version: row[0],
-        stated: row[2],
-        n: 5,
-        m: 8,
-        starts_beyond: 8,
-        ends_beyond: 8,
-    });
+    let bytes = network_bytes(row[0], row[2], [5, 8, 8, 8]);
     let size = records::network_size(first(&bytes, row[1]));
     passes(b"reading", b"input", i, of_two(size, 0), of_two(row[3], 0))
 }

@@ -1,7 +1,7 @@
 // The link reader: the eight bytes of a link, or none.
 use crate::answers::*;
 use crate::build::first;
-use crate::edge_records::*;
+use crate::edge_records::network_bytes;
 
 pub const CASES: usize = 18;
 
@@ -40,14 +40,7 @@ pub fn case_passes(i: usize) -> bool {
     let row = row_at(i);
     let m = row[2] % 4096;
     let size = 9 + 8 * m;
-    let bytes = network_bytes(Network {
-        version: row[0],
-        stated: size,
-        n: row[1],
-        m,
-        starts_beyond: m,
-        ends_beyond: row[3],
-    });
+    let bytes = network_bytes(row[0], size, [row[1], m, m, row[3]]);
     let got = of_link(records::link(first(&bytes, size), row[4]));
     let mut right = [0; ANSWER];
     put(&mut right, 0, &row[5..14]);

@@ -1,7 +1,7 @@
 // The network reader at its limits.
 use crate::answers::*;
 use crate::build::first;
-use crate::edge_records::*;
+use crate::edge_records::network_bytes;
 use crate::request_reader::of_request;
 
 pub const CASES: usize = 46;
@@ -71,14 +71,7 @@ fn row_at(i: usize) -> [usize; 9] {
 // Whether case i passes. Says what is wrong where it does not.
 pub fn case_passes(i: usize) -> bool {
     let row = row_at(i);
-    let bytes = network_bytes(Network {
-        version: row[0],
-        stated: row[2],
-        n: row[3],
-        m: row[4],
-        starts_beyond: row[5],
-        ends_beyond: row[6],
-    });
+    let bytes = network_bytes(row[0], row[2], [row[3], row[4], row[5], row[6]]);
     let network = first(&bytes, row[1]);
     let got = of_network(network, row[4]);
     let got_before_request = of_request(network, b"");

@@ -1,7 +1,8 @@
 // The request reader at its limits, for a network of n nodes and no link.
 use crate::answers::*;
 use crate::build::first;
-use crate::edge_records::*;
+use crate::build::network_head;
+use crate::edge_records::request_bytes;
 
 pub const CASES: usize = 63;
 
@@ -89,24 +90,12 @@ fn row_at(i: usize) -> [usize; 12] {
 // Whether case i passes. Says what is wrong where it does not.
 pub fn case_passes(i: usize) -> bool {
     let row = row_at(i);
-    let network = network_bytes(Network {
-        version: 1,
-        stated: 9,
-        n: row[0],
-        m: 0,
-        starts_beyond: 0,
-        ends_beyond: 0,
-    });
-    let request = request_bytes(Request {
-        version: row[1],
-        stated: row[3],
-        source: row[4],
-        target: row[5],
-        bus: row[6],
-        count: row[7],
-        node: row[8],
-        weight: row[9],
-    });
+    let network = network_head(1, 9, row[0], 0);
+    let request = request_bytes(
+        row[1],
+        row[3],
+        [row[4], row[5], row[6], row[7], row[8], row[9]],
+    );
     let got = of_request(first(&network, 9), first(&request, row[2]));
     passes(b"reading", b"request", i, got, right_answer(row))
 }

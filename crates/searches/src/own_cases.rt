@@ -97,7 +97,7 @@ pub fn case_passes(i: usize) -> bool {
         4 => passes(b"off the road", &networks::OFF_THE_ROAD, &OFF_THE_ROAD),
         5 => passes(b"wide costs", &networks::WIDE_COSTS, &WIDE_COSTS),
         6 => passes(b"closed walk", &networks::CLOSED_WALK, &CLOSED_WALK),
-        7 => passes(b"wall opened", &networks::WALL_OPENED, &WALL_OPENED),
+        7 => passes(b"wall opened", &networks::wall_opened(), &WALL_OPENED),
         8 => passes(b"dearest", &networks::DEAREST, &DEAREST),
         _ => passes(b"lone", &[], &LONE),
     }

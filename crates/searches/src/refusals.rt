@@ -9,8 +9,20 @@ pub const CASES: usize = 8;
 pub fn case_passes(i: usize) -> bool {
     match i {
         0 => refuses(b"no node", 0, &[], &[0, 3, 1, 1, 4, 1], [4, 0]),
-        1 => refuses(b"stray link", 5, &STRAY, &[0, 3, 1, 1, 4, 1], [6, 6]),
-        2 => refuses(b"link first", 5, &STRAY, &[5, 3, 0, 1, 5, 0], [6, 6]),
+        1 => refuses(
+            b"stray link",
+            5,
+            &stray_links(),
+            &[0, 3, 1, 1, 4, 1],
+            [6, 6],
+        ),
+        2 => refuses(
+            b"link first",
+            5,
+            &stray_links(),
+            &[5, 3, 0, 1, 5, 0],
+            [6, 6],
+        ),
         3 => refuses(b"stray source", 5, &TOWN, &[5, 5, 0, 1, 5, 0], [16, 0]),
         4 => refuses(b"stray target", 5, &TOWN, &[0, 5, 0, 1, 5, 0], [16, 1]),
         5 => refuses(b"stray rider", 5, &TOWN, &[0, 3, 0, 2, 4, 0, 5, 1], [16, 3]),

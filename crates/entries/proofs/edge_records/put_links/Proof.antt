@@ -6,11 +6,13 @@ use Rattle.entries.proofs.edge_records.put_links.Statement.{statement}
 use Rattle.entries.proofs.edge_records.put_links.Tie as tie
 
 abbrev Inv-loop : tie.InvT-loop
-Inv-loop bytes₀ network k₀ bytes k = Unit
+Inv-loop bytes₀ n m starts-beyond ends-beyond k₀ bytes k = Unit
 
 abbrev μ-loop : tie.MeasureT-loop
-μ-loop bytes₀ network k₀ bytes k = 2049 - k
+μ-loop bytes₀ n m starts-beyond ends-beyond k₀ bytes k = 2049 - k
 
 pub put-links-spec : {M : Type 1} → statement M
 put-links-spec =
-    tie.close (four (four (tie.spec Inv-loop μ-loop) (search needs)) (search needs) (search needs) (search needs) (search needs))
+    tie.close
+    (four (four (four (tie.spec Inv-loop μ-loop) (search needs)) (search needs))
+    (search needs) (search needs) (search needs) (search needs))

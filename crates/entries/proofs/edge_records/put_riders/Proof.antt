@@ -6,10 +6,10 @@ use Rattle.entries.proofs.edge_records.put_riders.Statement.{statement}
 use Rattle.entries.proofs.edge_records.put_riders.Tie as tie
 
 abbrev Inv-loop : tie.InvT-loop
-Inv-loop bytes₀ request j₀ bytes j = Unit
+Inv-loop bytes₀ node weight j₀ bytes j = Unit
 
 abbrev μ-loop : tie.MeasureT-loop
-μ-loop bytes₀ request j₀ bytes j = 8 - j
+μ-loop bytes₀ node weight j₀ bytes j = 8 - j
 
 pub put-riders-spec : {M : Type 1} → statement M
 put-riders-spec =
