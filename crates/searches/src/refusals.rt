@@ -23,12 +23,16 @@ pub fn case_passes(i: usize) -> bool {
             &[5, 3, 0, 1, 5, 0],
             [6, 6],
         ),
-        3 => refuses(b"stray source", 5, &TOWN, &[5, 5, 0, 1, 5, 0], [16, 0]),
-        4 => refuses(b"stray target", 5, &TOWN, &[0, 5, 0, 1, 5, 0], [16, 1]),
-        5 => refuses(b"stray rider", 5, &TOWN, &[0, 3, 0, 2, 4, 0, 5, 1], [16, 3]),
-        6 => refuses(b"no bus", 5, &TOWN, &[0, 3, 0, 1, 4, 0], [17, 0]),
-        _ => refuses(b"no rider", 5, &TOWN, &[0, 3, 1, 2, 4, 1, 4, 0], [17, 2]),
+        3 => town_refuses(b"stray source", &[5, 5, 0, 1, 5, 0], [16, 0]),
+        4 => town_refuses(b"stray target", &[0, 5, 0, 1, 5, 0], [16, 1]),
+        5 => town_refuses(b"stray rider", &[0, 3, 0, 2, 4, 0, 5, 1], [16, 3]),
+        6 => town_refuses(b"no bus", &[0, 3, 0, 1, 4, 0], [17, 0]),
+        _ => town_refuses(b"no rider", &[0, 3, 1, 2, 4, 1, 4, 0], [17, 2]),
     }
+}
+
+fn town_refuses(case: &[u8], request: &[usize], refusal: [usize; 2]) -> bool {
+    refuses(case, 5, &TOWN, request, refusal)
 }
 
 // Whether the search refuses with a number at a place, without a place lent and with all.

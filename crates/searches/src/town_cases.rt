@@ -1,6 +1,6 @@
 // Document 01's cases of the small town.
 use crate::answers::NONE;
-use crate::cases::passes;
+use crate::cases;
 use crate::networks::TOWN;
 
 pub const CASES: usize = 11;
@@ -109,16 +109,20 @@ const K: [[usize; 10]; 5] = [
 // Whether case i passes. Says what is wrong where it does not.
 pub fn case_passes(i: usize) -> bool {
     match i {
-        0 => passes(b"A", &TOWN, &A),
-        1 => passes(b"B", &TOWN, &B),
-        2 => passes(b"C", &TOWN, &C),
-        3 => passes(b"D", &TOWN, &D),
-        4 => passes(b"E", &TOWN, &E),
-        5 => passes(b"F", &TOWN, &F),
-        6 => passes(b"G", &TOWN, &G),
-        7 => passes(b"H", &TOWN, &H),
-        8 => passes(b"I", &TOWN, &I),
-        9 => passes(b"J", &TOWN, &J),
-        _ => passes(b"K", &TOWN, &K),
+        0 => passes(b"A", &A),
+        1 => passes(b"B", &B),
+        2 => passes(b"C", &C),
+        3 => passes(b"D", &D),
+        4 => passes(b"E", &E),
+        5 => passes(b"F", &F),
+        6 => passes(b"G", &G),
+        7 => passes(b"H", &H),
+        8 => passes(b"I", &I),
+        9 => passes(b"J", &J),
+        _ => passes(b"K", &K),
     }
+}
+
+fn passes(name: &[u8], case: &[[usize; 10]]) -> bool {
+    cases::passes(name, &TOWN, case)
 }
