@@ -1,204 +1,72 @@
-// Document 01's cases of the small town.
-use crate::answer::NONE;
-use crate::rooms::passes;
-use crate::rows::town;
-use crate::towns::TOWN;
+// A case is rows of ten numbers: n, and source, target, bus weight, rider count, node and weight of each rider; then the
+// refusal's number or 0, the cost, the number of steps and the steps; then for each rider the distance to each node; then
+// for each set of riders the cost and the number of steps of each node's finish. Zeros fill the rows up.
+use crate::answers::*;
+use crate::rooms;
+use crate::rows::*;
 
-pub const CASES: usize = 11;
+// Whether the case passes for a network's links.
+pub fn passes(name: &[u8], links: &[[usize; 4]], case: &[[usize; 10]]) -> bool {
+    let request = row_at(case, 0);
+    let town = row(request[0], links, &request[1..10]);
+    let right = right_answer(&town, case);
+    rooms::passes(name, &town, right)
+}
 
-// Whether case i passes. Says what is wrong where it does not.
-pub fn case_passes(i: usize) -> bool {
-    match i {
-        0 => case_a(),
-        1 => case_b(),
-        2 => case_c(),
-        3 => case_d(),
-        4 => case_e(),
-        5 => case_f(),
-        6 => case_g(),
-        7 => case_h(),
-        8 => case_i(),
-        9 => case_j(),
-        _ => case_k(),
+fn row_at(case: &[[usize; 10]], i: usize) -> [usize; 10] {
+    if case.len() <= i {
+        return [0; 10];
+    }
+    case[i]
+}
+
+// The right answer in rooms that are large enough.
+fn right_answer(town: &[usize; NUMBERS], case: &[[usize; 10]]) -> [usize; ANSWER] {
+    let outcome = row_at(case, 1);
+    let mut answer = untouched(outcome[0], outcome[1]);
+    let count = outcome[2] % 8;
+    answer[2] = count;
+    put(&mut answer, FIRST_STEP, &outcome[3..3 + count]);
+    put_rooms(&mut answer, town, case);
+    answer
+}
+
+fn put_rooms(answer: &mut [usize; ANSWER], town: &[usize; NUMBERS], case: &[[usize; 10]]) {
+    let mut i = 0;
+    while i < DISTANCES + TABLE {
+        answer[FIRST_DISTANCE + i] = right_place(town, case, i);
+        i += 1;
     }
 }
 
-// A: rider at 4, weight 1
-fn case_a() -> bool {
-    let town = town(5, &TOWN, &[0, 3, 1, 4, 1]);
-    let table = [
-        [6, 2, 3, 1, 4, 1, 0, 0, 5, 2],
-        [8, 3, 5, 2, 6, 4, 11, 1, 5, 3],
-    ];
-    passes(
-        b"A",
-        &town,
-        [5, 10, 9],
-        [0, 8],
-        &[8, 0, 9],
-        &[NONE, 2, 6, 11, 0],
-        &table,
-    )
+// What place i of the rooms is to hold, where the table follows the distances.
+fn right_place(town: &[usize; NUMBERS], case: &[[usize; 10]], i: usize) -> usize {
+    let n = town[N];
+    let riders = town[COUNT] % 8;
+    if n == 0 {
+        return MARK;
+    }
+    if i < DISTANCES {
+        return right_distance(case, riders, i / n, i % n);
+    }
+    let j = i - DISTANCES;
+    right_finish(case, 2 + riders, j / n, j % n)
 }
 
-// B: rider at 4, weight 10
-fn case_b() -> bool {
-    let town = town(5, &TOWN, &[0, 3, 1, 4, 10]);
-    let table = [
-        [6, 2, 3, 1, 4, 1, 0, 0, 5, 2],
-        [11, 5, 23, 2, 6, 4, 110, 1, 5, 3],
-    ];
-    passes(
-        b"B",
-        &town,
-        [5, 10, 9],
-        [0, 11],
-        &[10, 15, 0, 13, 11],
-        &[NONE, 2, 6, 11, 0],
-        &table,
-    )
+fn right_distance(case: &[[usize; 10]], riders: usize, rider: usize, v: usize) -> usize {
+    if riders <= rider {
+        return MARK;
+    }
+    let row = row_at(case, 2 + rider % 8);
+    row[v % 10]
 }
 
-// C: rider at 4, weight 2
-fn case_c() -> bool {
-    let town = town(5, &TOWN, &[0, 3, 1, 4, 2]);
-    let table = [
-        [6, 2, 3, 1, 4, 1, 0, 0, 5, 2],
-        [10, 3, 7, 2, 6, 4, 22, 1, 5, 3],
-    ];
-    passes(
-        b"C",
-        &town,
-        [5, 10, 9],
-        [0, 10],
-        &[8, 0, 9],
-        &[NONE, 2, 6, 11, 0],
-        &table,
-    )
-}
-
-// D: a = 2, rider at 4, weight 5
-fn case_d() -> bool {
-    let town = town(5, &TOWN, &[0, 3, 2, 4, 5]);
-    let table = [
-        [12, 2, 6, 1, 8, 1, 0, 0, 10, 2],
-        [22, 3, 16, 2, 12, 4, 55, 1, 10, 3],
-    ];
-    passes(
-        b"D",
-        &town,
-        [5, 10, 9],
-        [0, 22],
-        &[8, 0, 9],
-        &[NONE, 2, 6, 11, 0],
-        &table,
-    )
-}
-
-// E: source = target = 0, no rider
-fn case_e() -> bool {
-    let town = town(5, &TOWN, &[0, 0, 1]);
-    let table = [[0, 0, NONE, 0, NONE, 0, NONE, 0, NONE, 0]];
-    passes(b"E", &town, [0, 5, 4], [0, 0], &[], &[], &table)
-}
-
-// F: source 3, target 0, no rider
-fn case_f() -> bool {
-    let town = town(5, &TOWN, &[3, 0, 1]);
-    let table = [[0, 0, NONE, 0, NONE, 0, NONE, 0, NONE, 0]];
-    passes(b"F", &town, [0, 5, 4], [24, 0], &[], &[], &table)
-}
-
-// G: rider at 0, weight 1
-fn case_g() -> bool {
-    let town = town(5, &TOWN, &[0, 3, 1, 0, 1]);
-    let table = [
-        [6, 2, 3, 1, 4, 1, 0, 0, 5, 2],
-        [6, 3, 12, 2, 17, 4, 18, 1, 16, 3],
-    ];
-    passes(
-        b"G",
-        &town,
-        [5, 10, 9],
-        [0, 6],
-        &[0, 8, 9],
-        &[0, 9, 17, 18, 11],
-        &table,
-    )
-}
-
-// H: rider at 3, weight 1
-fn case_h() -> bool {
-    let town = town(5, &TOWN, &[0, 3, 1, 3, 1]);
-    let table = [
-        [6, 2, 3, 1, 4, 1, 0, 0, 5, 2],
-        [6, 3, 3, 2, 4, 2, 0, 1, 5, 3],
-    ];
-    passes(
-        b"H",
-        &town,
-        [5, 10, 9],
-        [0, 6],
-        &[8, 9, 0],
-        &[NONE, NONE, NONE, 0, NONE],
-        &table,
-    )
-}
-
-// I: riders at 4 and 4, weights 1, 1
-fn case_i() -> bool {
-    let town = town(5, &TOWN, &[0, 3, 1, 4, 1, 4, 1]);
-    let table = [
-        [6, 2, 3, 1, 4, 1, 0, 0, 5, 2],
-        [8, 3, 5, 2, 6, 4, 11, 1, 5, 3],
-        [8, 3, 5, 2, 6, 4, 11, 1, 5, 3],
-        [10, 4, 7, 3, 6, 5, 22, 2, 5, 4],
-    ];
-    passes(
-        b"I",
-        &town,
-        [10, 20, 14],
-        [0, 10],
-        &[8, 0, 1, 9],
-        &[NONE, 2, 6, 11, 0, NONE, 2, 6, 11, 0],
-        &table,
-    )
-}
-
-// J: the same, weights 1, 2
-fn case_j() -> bool {
-    let town = town(5, &TOWN, &[0, 3, 1, 4, 1, 4, 2]);
-    let table = [
-        [6, 2, 3, 1, 4, 1, 0, 0, 5, 2],
-        [8, 3, 5, 2, 6, 4, 11, 1, 5, 3],
-        [10, 3, 7, 2, 6, 4, 22, 1, 5, 3],
-        [11, 6, 9, 3, 6, 5, 33, 2, 5, 4],
-    ];
-    passes(
-        b"J",
-        &town,
-        [10, 20, 14],
-        [0, 11],
-        &[10, 15, 0, 1, 13, 11],
-        &[NONE, 2, 6, 11, 0, NONE, 2, 6, 11, 0],
-        &table,
-    )
-}
-
-// K: source = target = 0, rider at 3, weight 1
-fn case_k() -> bool {
-    let town = town(5, &TOWN, &[0, 0, 1, 3, 1]);
-    let table = [
-        [0, 0, NONE, 0, NONE, 0, NONE, 0, NONE, 0],
-        [NONE, 0, NONE, 0, NONE, 0, NONE, 0, NONE, 0],
-    ];
-    passes(
-        b"K",
-        &town,
-        [5, 10, 9],
-        [24, 0],
-        &[],
-        &[NONE, NONE, NONE, 0, NONE],
-        &table,
-    )
+// What the place of node v holds in the row of a set of riders, whose rows start at `first`.
+fn right_finish(case: &[[usize; 10]], first: usize, riders: usize, v: usize) -> usize {
+    let place = first % 16 + riders % 256;
+    if case.len() <= place {
+        return MARK;
+    }
+    let row = case[place];
+    packed(row[v % 5 * 2], row[v % 5 * 2 + 1])
 }

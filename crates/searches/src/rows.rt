@@ -1,33 +1,36 @@
-// Rows of numbers from n, the links of a network, and a request: source, target and bus weight, then node and weight of
-// each rider.
-use trial::inner::*;
+// A town and a request are one row of numbers.
+pub const MOST_LINKS: usize = 12;
 
-pub fn town(n: usize, links: &[[usize; 4]], request: &[usize]) -> [usize; NUMBERS] {
+pub const MOST_RIDERS: usize = 7;
+
+// Where the numbers stand in a row: n and m; the request's source, target, bus weight and rider count; then node and
+// weight of each rider, and from, to, drive and walk of each link.
+pub const N: usize = 0;
+
+pub const M: usize = 1;
+
+pub const SOURCE: usize = 2;
+
+pub const TARGET: usize = 3;
+
+pub const WEIGHT: usize = 4;
+
+pub const COUNT: usize = 5;
+
+pub const RIDERS: usize = 6;
+
+pub const LINKS: usize = 20;
+
+pub const NUMBERS: usize = 68;
+
+// The row of a network's n and links, and of a request's numbers.
+pub fn row(n: usize, links: &[[usize; 4]], request: &[usize]) -> [usize; NUMBERS] {
     let mut town = [0; NUMBERS];
     town[N] = n;
     town[M] = links.len();
-    town[SOURCE] = at(request, 0);
-    town[TARGET] = at(request, 1);
-    town[WEIGHT] = at(request, 2);
-    town[COUNT] = riders(request);
-    put_riders(&mut town, request);
+    put(&mut town, SOURCE, request);
     put_links(&mut town, links);
     town
-}
-
-fn riders(request: &[usize]) -> usize {
-    if request.len() < 3 {
-        return 0;
-    }
-    (request.len() - 3) / 2
-}
-
-fn put_riders(town: &mut [usize; NUMBERS], request: &[usize]) {
-    let mut i = 0;
-    while i < 2 * MOST_RIDERS {
-        town[RIDERS + i] = at(request, 3 + i);
-        i += 1;
-    }
 }
 
 fn put_links(town: &mut [usize; NUMBERS], links: &[[usize; 4]]) {
@@ -42,10 +45,16 @@ fn put_links(town: &mut [usize; NUMBERS], links: &[[usize; 4]]) {
     }
 }
 
-// The number at place i, or 0.
-fn at(numbers: &[usize], i: usize) -> usize {
-    if numbers.len() <= i {
-        return 0;
+// Puts numbers into a room from a place on, as many as it has places for.
+pub fn put(room: &mut [usize], first: usize, numbers: &[usize]) {
+    let mut at = first;
+    let mut i = 0;
+    while at < room.len() {
+        if numbers.len() <= i {
+            return;
+        }
+        room[at] = numbers[i];
+        at += 1;
+        i += 1;
     }
-    numbers[i]
 }

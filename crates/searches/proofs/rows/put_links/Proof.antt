@@ -1,5 +1,7 @@
+-- Nothing is claimed of the loop but that it ends: i rises to the number of links' numbers.
 use Prim.Native.Nat.{_-_}
 use borrow.Author.Needs.{needs}
+use Rattle.searches.proofs.Four.{four}
 use Rattle.searches.proofs.rows.put_links.Statement.{statement}
 use Rattle.searches.proofs.rows.put_links.Tie as tie
 
@@ -11,21 +13,4 @@ abbrev μ-loop : tie.MeasureT-loop
 
 pub put-links-spec : {M : Type 1} → statement M
 put-links-spec =
-    tie.close
-    (tie.spec
-    Inv-loop
-    μ-loop
-    (λ c. search needs)
-    (λ c. search needs)
-    (λ c. search needs)
-    (λ c. search needs)
-    (λ c. search needs)
-    (λ c. search needs)
-    (λ c. search needs)
-    (λ c. search needs)
-    (λ c. search needs)
-    (λ c. search needs)
-    (λ c. search needs)
-    (λ c. search needs)
-    (λ c. search needs)
-    (λ c. search needs))
+    tie.close (four (four (four (tie.spec Inv-loop μ-loop) (search needs)) (search needs)) (search needs) (search needs) (search needs))

@@ -1,0 +1,18 @@
+-- Nothing is claimed of the loop but that it ends: j rises to the number of riders.
+use Prim.Native.Nat.{_-_}
+use borrow.Author.Needs.{needs}
+use Rattle.entries.proofs.Four.{four}
+use Rattle.entries.proofs.request_reader.of_request.Statement.{statement}
+use Rattle.entries.proofs.request_reader.of_request.Tie as tie
+
+abbrev Inv-loop : tie.InvT-loop
+Inv-loop network request value answer₀ j₀ answer j = Unit
+
+abbrev μ-loop : tie.MeasureT-loop
+μ-loop network request value answer₀ j₀ answer j = 7 - j
+
+pub of-request-spec : {M : Type 1} → statement M
+of-request-spec =
+    tie.close
+    (four (four (four (four (four (tie.spec Inv-loop μ-loop) (search needs)) (search needs)) (search needs)) (search needs))
+    (search needs) (search needs))
