@@ -108,12 +108,12 @@ pub fn of_request(network: &[u8], request: &[u8]) -> [usize; ANSWER] {
     let mut answer = of_verdict(verdict);
     answer[2] = value.source;
     answer[3] = value.target;
-    answer[4] = value.weight as usize;
-    answer[5] = value.count;
+    answer[4] = value.bus_weight as usize;
+    answer[5] = value.rider_count;
     let mut j = 0;
     while j < 7 {
         answer[6 + j] = value.nodes[j];
-        answer[13 + j] = value.weights[j] as usize;
+        answer[13 + j] = value.bus_weights[j] as usize;
         j += 1;
     }
     answer

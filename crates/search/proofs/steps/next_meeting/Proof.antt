@@ -73,7 +73,7 @@ returns-2 : tie.Need-returns-2 Inv-loop μ-loop
 returns-2 c =
     let at-before = c .before .before .before .before .before in
     let entry = at-before .before in
-    next-nobody (entry .pre .0) (trying-all (entry .pre .0) (entry .pre .1) (c .before .loop .inv) (c .loop-test .left))
+    next-nobody (entry .pre .0) (trying-all (entry .pre .0) (entry .pre .1) (c .before .loop .inv) (omega (arith, c .loop-test .left)))
 
 pub next-meeting-spec : {M : Type 1} → statement M
 next-meeting-spec =

@@ -37,7 +37,7 @@ loop-again c =
 returns : tie.Need-returns Inv-loop μ-loop
 returns c =
     let entry = c .before .before .before .before .before in
-    seeing-all (entry .pre .2) (entry .pre .1) (entry .pre .0) (c .loop-test .left) (c .before .loop .inv)
+    seeing-all (entry .pre .2) (entry .pre .1) (entry .pre .0) (omega (arith, c .loop-test .left)) (c .before .loop .inv)
 
 pub least-meeting-spec : {M : Type 1} → statement M
 least-meeting-spec = tie.close (tie.spec Inv-loop μ-loop loop-holds first-meeting-requires (λ c κs. tt) loop-less loop-again returns)
