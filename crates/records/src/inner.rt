@@ -36,7 +36,9 @@ pub fn two(s: &[u8], i: usize) -> usize
     requires { ⌜ i + 2 ≤ length (now s) ⌝ }
     ensures { λ r. ⌜ Is (Numbers.two (now (s .entry)) i) 65536 r ⌝ }
 {
-    256 * byte(s, i) + byte(s, i + 1)
+    let high = byte(s, i);
+    let low = byte(s, i + 1);
+    256 * high + low
 }
 
 // How many nodes the network has.

@@ -11,4 +11,4 @@ returns c = rw add-zero (omega arith)
 
 pub two-spec : {M : Type 1} → statement M
 two-spec =
-    tie.close (tie.spec (λ c κs. search needs) (λ c. search needs) (λ c. search needs) (λ c κs. search needs) (λ c. search needs) returns)
+    tie.close (tie.spec (λ c κs. search needs) (λ c. search needs) (λ c κs. search needs) (λ c. search needs) (λ c. search needs) returns)
