@@ -1,3 +1,4 @@
+-- The two cases of `nodeAfter`.
 use native.Mathlib.Omega.{arith}
 use borrow.Author.Needs.{needs}
 use borrow.Author.Tests.{lt-ltb, le-ltb}

@@ -12,7 +12,9 @@ returns c = simp (lt-ltb _ _ (c .before .if1 .taken)) (c .refused .ensures)
 
 returns-2 : tie.Need-returns-2
 unfolding openingChecks firstOf
-returns-2 c = simp (le-ltb _ _ (c .before .before .before .before .before .if1 .left)) (cc)
+returns-2 c =
+    let long = c .before .before .before .before .before in
+    simp (le-ltb _ _ (long .if1 .left)) (cc)
 
 pub opening-verdict-spec : {M : Type 1} → statement M
 opening-verdict-spec =

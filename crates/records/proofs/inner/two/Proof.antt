@@ -1,3 +1,4 @@
+-- Two bytes are the number of a byte and one byte more.
 use native.Mathlib.Omega.{arith}
 use native.Mathlib.Nat.{add-zero}
 use Rattle.rules.specs.Numbers.{number}

@@ -1,3 +1,4 @@
+-- The two tests of `networkSize`, the stated length being read behind the first.
 use native.Mathlib.Omega.{arith}
 use lib.ListN.{length}
 use borrow.Author.Needs.{needs}

@@ -18,7 +18,9 @@ loop-holds c = judged-none (c .link-count .ensures .value)
 
 loop-again : tie.Need-loop-again Inv-loop μ-loop
 unfolding firstOf
-loop-again c = judged-more (c .before .before .before .before .before .loop .inv) (search needs) (cc)
+loop-again c =
+    let here = c .before .before .before .before .before in
+    judged-more (here .loop .inv) (search needs) (cc)
 
 returns : tie.Need-returns Inv-loop μ-loop
 returns c = judged-all (c .before .loop .inv) (omega arith)

@@ -1,3 +1,4 @@
+-- The two tests in their order, each told by `checked`.
 use borrow.Author.Needs.{needs}
 use Rattle.rules.specs.Checks.{firstOf}
 use Rattle.rules.specs.Request.{countChecks}

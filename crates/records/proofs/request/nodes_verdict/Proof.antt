@@ -23,7 +23,8 @@ loop-again c = judged-more (c .before .before .before .loop .inv) (search needs)
 returns : tie.Need-returns Inv-loop μ-loop
 unfolding nodeChecks firstOf
 returns c =
-    let riders = judged-all (c .before .before .before .before .before .loop .inv) (omega arith) in
+    let end = c .before .before .before .before .before in
+    let riders = judged-all (end .loop .inv) (omega arith) in
     cc
 
 pub nodes-verdict-spec : {M : Type 1} → statement M

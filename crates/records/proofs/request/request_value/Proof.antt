@@ -30,7 +30,8 @@ loop-again c =
 returns : tie.Need-returns Inv-loop μ-loop
 unfolding requestValue
 returns c =
-    let all : c .before .before .before .before .loop .j ≡ c .before .before .before .before .before .rider-count .result = omega arith in
+    let end = c .before .before .before .before in
+    let all : end .loop .j ≡ end .before .rider-count .result = omega arith in
     cc
 
 pub request-value-spec : {M : Type 1} → statement M
