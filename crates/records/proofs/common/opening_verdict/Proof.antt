@@ -13,8 +13,10 @@ returns c = simp (lt-ltb _ _ (c .before .if1 .taken)) (c .refused .ensures)
 returns-2 : tie.Need-returns-2
 unfolding openingChecks firstOf
 returns-2 c =
-    let long = c .before .before .before .before .before in
-    simp (le-ltb _ _ (long .if1 .left)) (cc)
+    let read = c .before .before .before .before in
+    simp (le-ltb _ _ (read .before .if1 .left))
+    (rw (c .checked2 .ensures, c .before .checked .ensures, c .before .before .number .ensures)
+    (rw (c .before .before .before .outside .ensures, read .byte .ensures .value)))
 
 pub opening-verdict-spec : {M : Type 1} → statement M
 opening-verdict-spec =

@@ -20,7 +20,9 @@ loop-again : tie.Need-loop-again Inv-loop μ-loop
 unfolding firstOf
 loop-again c =
     let here = c .before .before .before .before .before in
-    judged-more (here .loop .inv) (search needs) (cc)
+    judged-more (here .loop .inv) (search needs)
+    (rw (c .checked .ensures, c .before .either .ensures, c .before .before .to .ensures .value, c .before .before .before .from .ensures .value)
+    (rw (here .before .before .node-count .ensures .value, here .loop .inv .says)))
 
 returns : tie.Need-returns Inv-loop μ-loop
 returns c = judged-all (c .before .loop .inv) (omega arith)
