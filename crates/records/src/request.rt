@@ -98,12 +98,12 @@ fn own_verdict(request: &[u8], n: usize) -> Verdict
     let Verdict::Accepted = counted else {
         return counted;
     };
-    let nodes = nodes_verdict(request, n);
-    let weights = weights_verdict(request);
-    let Verdict::Accepted = nodes else {
-        return nodes;
+    let placed = nodes_verdict(request, n);
+    let weighed = weights_verdict(request);
+    let Verdict::Accepted = placed else {
+        return placed;
     };
-    weights
+    weighed
 }
 
 // Refusals 14 and 15.
