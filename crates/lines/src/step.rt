@@ -37,5 +37,6 @@ pub fn node_after(network: &[u8], node: usize, step: usize) -> usize
     if step < FIRST_DRIVE {
         return node;
     }
-    inner::to(network, step - FIRST_DRIVE)
+    let link = step - FIRST_DRIVE;
+    inner::to(network, link)
 }

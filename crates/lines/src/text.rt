@@ -46,18 +46,18 @@ fn field(line: Line, x: u64) -> Line
     requires { ⌜ Room longestField line ⌝ }
     ensures { λ r. ⌜ Added line (32 ∷ decimal x) r ⌝ }
 {
-    put(number(line, x), 32)
+    put(decimal(line, x), 32)
 }
 
 // A number's digits, in front, from the last one on.
-fn number(line: Line, x: u64) -> Line
+fn decimal(line: Line, x: u64) -> Line
     requires { ⌜ Room (length (decimal x)) line ⌝ }
     ensures { λ r. ⌜ Added line (decimal x) r ⌝ }
 {
     if x < 10 {
         return put(line, digit(x));
     }
-    number(put(line, digit(x % 10)), x / 10)
+    decimal(put(line, digit(x % 10)), x / 10)
 }
 
 // A word, in front, from its last byte on.

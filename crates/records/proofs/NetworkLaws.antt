@@ -28,14 +28,11 @@ link-fits s k h =
     let (so, below) = known-link s k h in
     omega arith
 
--- what the slice's own rule says of `&whole[start..start + size]`
-pub part-of : (whole : RefT (List ℕ)) (start size name : ℕ) → Part whole start size (slPart whole (start + whole .ptr .1) start (start + size) name)
-part-of whole start size name =
-    record {
-      memory = refl;
-      place = refl;
-      contents = rw (add-sub-cancel-left start size);
-    }
+-- what the slice's own rule says of `&whole[at..at + size]`
+pub part-of : (whole : RefT (List ℕ)) {start at : ℕ} (size name : ℕ) → at ≡ start
+    → Part whole start size (slPart whole (at + whole .ptr .1) at (at + size) name)
+part-of whole {start} {at} size name e =
+    record { memory = refl; place = rw e; contents = rw (add-sub-cancel-left at size, e) }
 
 -- what a read network says: its verdict, and beside an accepted one its numbers
 module _ (s : List ℕ) {r : NetworkRead} (is : r ≡ networkOf s) where

@@ -36,7 +36,9 @@ pub fn two(s: &[u8], i: usize) -> usize
     requires { ⌜ i + 2 ≤ length (now s) ⌝ }
     ensures { λ r. ⌜ Is (Numbers.two (now (s .entry)) i) 65536 r ⌝ }
 {
-    256 * byte(s, i) + byte(s, i + 1)
+    let high = byte(s, i);
+    let low = byte(s, i + 1);
+    256 * high + low
 }
 
 // How many nodes the network has.
@@ -79,7 +81,7 @@ pub fn to(network: &[u8], k: usize) -> usize
     link_number(network, k, 2)
 }
 
-// What driving link k costs, or 65,535 where it is closed to the bus.
+// What driving link k costs, or `CLOSED` where it is closed to the bus.
 pub fn drive(network: &[u8], k: usize) -> u64
     requires { ⌜ linkStart k + 8 ≤ length (now network) ⌝ }
     ensures { λ r. ⌜ Is (drive (now (network .entry)) k) 65536 r ⌝ }
@@ -87,7 +89,7 @@ pub fn drive(network: &[u8], k: usize) -> u64
     link_number(network, k, 4) as u64
 }
 
-// What walking link k costs, or 65,535 where it is closed to walkers.
+// What walking link k costs, or `CLOSED` where it is closed to walkers.
 pub fn walk(network: &[u8], k: usize) -> u32
     requires { ⌜ linkStart k + 8 ≤ length (now network) ⌝ }
     ensures { λ r. ⌜ Is (walk (now (network .entry)) k) 65536 r ⌝ }

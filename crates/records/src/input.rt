@@ -4,7 +4,7 @@ ghost use mathlib.Core.Path.{_≡_};
 ghost use Rattle.rules.specs.Program.{networkSize};
 
 // How many bytes of the input are the network: as many as it states, or all where there are under 5 or fewer than
-// stated.
+// stated (6.1).
 pub fn network_size(input: &[u8]) -> usize
     ensures { λ r. ⌜ r ≡ networkSize (now (input .entry)) ⌝ }
 {

@@ -1,4 +1,4 @@
-// Readers of the two records of document 01. Every slice, of any length and content, gets its value or its refusal.
+// Readers of the two records of the rules. Every slice, of any length and content, gets its value or its refusal.
 mod common;
 pub mod inner;
 mod input;

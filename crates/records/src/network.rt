@@ -15,7 +15,7 @@ ghost use lib.ListN.{length};
 ghost use Rattle.rules.specs.Checks.{firstOf, each};
 ghost use Rattle.rules.specs.Network.{linkCount, linkStart, sizeChecks, linkChecks, networkVerdict, networkOf, LinkPart};
 
-// Reads a network record: n and m, or its refusal with both 0 beside it.
+// Reads a network record: n and m, or its refusal with both 0 beside it (1.8).
 pub fn read_network(network: &[u8]) -> NetworkRead
     ensures { λ r. ⌜ r ≡ networkOf (now (network .entry)) ⌝ }
 {
@@ -34,7 +34,8 @@ pub fn read_network(network: &[u8]) -> NetworkRead
     }
 }
 
-// The eight bytes of link k in the record itself, or the empty part at its start where there is no such link to read.
+// The eight bytes of link k in the record itself, or the empty part at its start where there is no such link to
+// read (1.10).
 pub fn link(network: &[u8], k: usize) -> &[u8]
     ensures { λ r. ⌜ LinkPart (network .entry) k r ⌝ }
 {
@@ -47,7 +48,7 @@ pub fn link(network: &[u8], k: usize) -> &[u8]
     &network[start..end]
 }
 
-// Refusals 1 to 6.
+// Refusals 1 to 6 (4.2).
 pub fn network_verdict(network: &[u8]) -> Verdict
     ensures { λ r. ⌜ r ≡ networkVerdict (now (network .entry)) ⌝ }
 {

@@ -19,7 +19,7 @@ ghost use Rattle.rules.specs.Request.{riderCount, riderStart, countChecks, node
 ghost use Rattle.rules.specs.Request.{requestVerdict, requestOf, requestValue, noRequest};
 
 // Reads a request record for a network record, whose refusals come first: the request, or its refusal with every
-// field 0 beside it.
+// field 0 beside it (1.9).
 pub fn read_request(network: &[u8], request: &[u8]) -> RequestRead
     ensures { λ r. ⌜ r ≡ requestOf (now (network .entry)) (now (request .entry)) ⌝ }
 {
@@ -75,7 +75,7 @@ fn request_value(request: &[u8]) -> Request
     }
 }
 
-// Refusals 1 to 6 and 11 to 17.
+// Refusals 1 to 6 of the network and then 11 to 17 of the request (1.7).
 fn request_verdict(network: &[u8], request: &[u8]) -> Verdict
     ensures { λ r. ⌜ r ≡ requestVerdict (now (network .entry)) (now (request .entry)) ⌝ }
 {
@@ -86,7 +86,7 @@ fn request_verdict(network: &[u8], request: &[u8]) -> Verdict
     own_verdict(request, inner::node_count(network))
 }
 
-// Refusals 11 to 17, for a network of n nodes.
+// Refusals 11 to 17 (4.3), for a network of n nodes.
 fn own_verdict(request: &[u8], n: usize) -> Verdict
     ensures { λ r. ⌜ r ≡ firstOf (requestChecks n (now (request .entry))) ⌝ }
 {
@@ -98,12 +98,12 @@ fn own_verdict(request: &[u8], n: usize) -> Verdict
     let Verdict::Accepted = counted else {
         return counted;
     };
-    let nodes = nodes_verdict(request, n);
-    let weights = weights_verdict(request);
-    let Verdict::Accepted = nodes else {
-        return nodes;
+    let placed = nodes_verdict(request, n);
+    let weighed = weights_verdict(request);
+    let Verdict::Accepted = placed else {
+        return placed;
     };
-    weights
+    weighed
 }
 
 // Refusals 14 and 15.
@@ -133,7 +133,7 @@ fn nodes_verdict(request: &[u8], n: usize) -> Verdict
     checked(source, 16, 0, checked(target, 16, 1, verdict))
 }
 
-// Refusal 17 at the lowest place with a weight outside 1 to 100, found from the last rider on.
+// Refusal 17 at the lowest place with a weight outside its limits, found from the last rider on.
 fn weights_verdict(request: &[u8]) -> Verdict
     requires { ⌜ riderStart (riderCount (now request)) ≤ length (now request) ⌝ }
     ensures { λ r. ⌜ r ≡ firstOf (weightChecks (now (request .entry))) ⌝ }

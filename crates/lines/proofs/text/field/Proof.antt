@@ -1,3 +1,4 @@
+-- A number has at most twenty digits, so the space before it has room.
 use native.Mathlib.Omega.{arith}
 use Rattle.lines.proofs.DecimalLaws.{decimal-length}
 use Rattle.lines.proofs.TextLaws.{added-both, room-behind}
@@ -5,14 +6,14 @@ use borrow.Author.Needs.{needs}
 use Rattle.lines.proofs.text.field.Statement.{statement}
 use Rattle.lines.proofs.text.field.Tie as tie
 
-number-requires : tie.Need-number-requires
-number-requires c κs = let few = decimal-length (c .args .x) .1 in search needs
+decimal-requires : tie.Need-decimal-requires
+decimal-requires c κs = let few = decimal-length (c .args .x) .1 in search needs
 
 put-requires : tie.Need-put-requires
-put-requires c κs = room-behind (c .before .pre) 1 (c .number .ensures) (omega (arith, decimal-length (c .before .args .x) .1))
+put-requires c κs = room-behind (c .before .pre) 1 (c .decimal .ensures) (omega (arith, decimal-length (c .before .args .x) .1))
 
 returns : tie.Need-returns
-returns c = added-both (c .before .number .ensures) (c .put .ensures)
+returns c = added-both (c .before .decimal .ensures) (c .put .ensures)
 
 pub field-spec : {M : Type 1} → statement M
-field-spec = tie.close (tie.spec number-requires put-requires returns)
+field-spec = tie.close (tie.spec decimal-requires put-requires returns)

@@ -1,3 +1,4 @@
+-- A closed line: its fields compute.
 use mathlib.Core.Path.{refl}
 use borrow.Author.Needs.{needs}
 use Rattle.lines.proofs.text.line_feed.Statement.{statement}

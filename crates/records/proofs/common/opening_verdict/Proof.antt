@@ -12,7 +12,11 @@ returns c = simp (lt-ltb _ _ (c .before .if1 .taken)) (c .refused .ensures)
 
 returns-2 : tie.Need-returns-2
 unfolding openingChecks firstOf
-returns-2 c = simp (le-ltb _ _ (c .before .before .before .before .before .if1 .left)) (cc)
+returns-2 c =
+    let read = c .before .before .before .before in
+    simp (le-ltb _ _ (read .before .if1 .left))
+    (rw (c .checked2 .ensures, c .before .checked .ensures, c .before .before .number .ensures)
+    (rw (c .before .before .before .outside .ensures, read .byte .ensures .value)))
 
 pub opening-verdict-spec : {M : Type 1} → statement M
 opening-verdict-spec =

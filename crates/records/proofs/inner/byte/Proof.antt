@@ -1,3 +1,4 @@
+-- A byte of a slice is below 256.
 use native.Mathlib.Omega.{arith}
 use mathlib.Core.Path.{refl}
 use borrow.Author.Needs.{needs}

@@ -1,3 +1,4 @@
+-- A link begins with the node that it starts at.
 use native.Mathlib.Nat.{add-zero}
 use borrow.Author.Needs.{needs}
 use Rattle.records.proofs.inner.from.Statement.{statement}

@@ -1,3 +1,4 @@
+-- Two bytes are the number of a byte and one byte more.
 use native.Mathlib.Omega.{arith}
 use native.Mathlib.Nat.{add-zero}
 use Rattle.rules.specs.Numbers.{number}
@@ -11,4 +12,4 @@ returns c = rw add-zero (omega arith)
 
 pub two-spec : {M : Type 1} → statement M
 two-spec =
-    tie.close (tie.spec (λ c κs. search needs) (λ c. search needs) (λ c. search needs) (λ c κs. search needs) (λ c. search needs) returns)
+    tie.close (tie.spec (λ c κs. search needs) (λ c. search needs) (λ c κs. search needs) (λ c. search needs) (λ c. search needs) returns)

@@ -18,7 +18,11 @@ loop-holds c = judged-none (c .link-count .ensures .value)
 
 loop-again : tie.Need-loop-again Inv-loop μ-loop
 unfolding firstOf
-loop-again c = judged-more (c .before .before .before .before .before .loop .inv) (search needs) (cc)
+loop-again c =
+    let here = c .before .before .before .before .before in
+    judged-more (here .loop .inv) (search needs)
+    (rw (c .checked .ensures, c .before .either .ensures, c .before .before .to .ensures .value, c .before .before .before .from .ensures .value)
+    (rw (here .before .before .node-count .ensures .value, here .loop .inv .says)))
 
 returns : tie.Need-returns Inv-loop μ-loop
 returns c = judged-all (c .before .loop .inv) (omega arith)

@@ -1,3 +1,4 @@
+-- The two tests in their order, each told by `checked`.
 use borrow.Author.Needs.{needs}
 use Rattle.rules.specs.Checks.{firstOf}
 use Rattle.rules.specs.Request.{countChecks}
@@ -6,7 +7,9 @@ use Rattle.records.proofs.request.count_verdict.Tie as tie
 
 returns : tie.Need-returns
 unfolding countChecks firstOf
-returns c = cc
+returns c =
+    let read = c .before .before .before in
+    rw (c .checked2 .ensures, c .before .checked .ensures, c .before .before .rider-start .ensures, read .rider-count .ensures .value)
 
 pub count-verdict-spec : {M : Type 1} → statement M
 count-verdict-spec =

@@ -30,8 +30,10 @@ loop-again c =
 returns : tie.Need-returns Inv-loop μ-loop
 unfolding requestValue
 returns c =
-    let all : c .before .before .before .before .loop .j ≡ c .before .before .before .before .before .rider-count .result = omega arith in
-    cc
+    let end = c .before .before .before .before in
+    let all : end .loop .j ≡ end .before .rider-count .result = omega arith in
+    rw (c .before .before .request-source .ensures .value, c .before .request-target .ensures .value, c .bus-weight .ensures .value)
+    (rw (end .loop .inv .1, end .loop .inv .2, all, end .before .rider-count .ensures .value))
 
 pub request-value-spec : {M : Type 1} → statement M
 request-value-spec =

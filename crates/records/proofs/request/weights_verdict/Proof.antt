@@ -18,13 +18,17 @@ loop-holds c = judged-none (c .rider-count .ensures .value)
 
 loop-again : tie.Need-loop-again Inv-loop μ-loop
 unfolding firstOf
-loop-again c = judged-more (c .before .before .before .before .loop .inv) (search needs) (cc)
+loop-again c =
+    let here = c .before .before .before .before .loop in
+    judged-more (here .inv) (search needs)
+    (rw (c .checked .ensures, c .before .outside .ensures, c .before .before .rider-weight .ensures .value, here .inv .says))
 
 returns : tie.Need-returns Inv-loop μ-loop
 unfolding weightChecks firstOf
 returns c =
-    let riders = judged-all (c .before .before .before .before .loop .inv) (omega arith) in
-    cc
+    let end = c .before .before .before .before in
+    rw (c .checked2 .ensures, c .before .outside2 .ensures, c .before .before .bus-weight .ensures .value)
+    (rw (judged-all (end .loop .inv) (omega arith)))
 
 pub weights-verdict-spec : {M : Type 1} → statement M
 weights-verdict-spec =
