@@ -4,14 +4,14 @@ use Prim.Native.Nat.{ℕ}
 use mathlib.Core.Path.{_≡_, refl, sym, _∙_}
 use mathlib.Core.Bool.{true, false}
 use mathlib.Core.List.{List, [], _∷_, _++_}
-use lib.ListN.{getD, take}
+use lib.ListN.{length, getD, take}
 use lib.Seq.{getD-take}
 use Rattle.rules.specs.Checks.{Check, refuse, firstOf}
 use Rattle.rules.specs.Network.{SoundNetwork, nodeCount}
 use Rattle.rules.specs.Request.{SoundValue, recordChecks, requestVerdict, requestValue, requestOf, riderCountOf}
 use Rattle.rules.specs.Routes.{routeChecks}
 use Rattle.rules.specs.Rooms.{Written, WrittenTo}
-use Rattle.rules.specs.Answers.{Outcome, gives, refuses, Pricing, refused, stranded, priced}
+use Rattle.rules.specs.Answers.{Outcome, gives, refuses, Pricing, refused, stranded, priced, priceChecks, PricedRoute}
 use Rattle.rules.specs.declared.Refusal.{Refusal}
 use Rattle.rules.specs.declared.Request.{Request}
 use Rattle.rules.specs.declared.RequestRead.{RequestRead}
@@ -27,6 +27,12 @@ use Rattle.records.proofs.RequestLaws.{request-verdict, request-accepted, reque
 abbrev pub PricedBehind : List ℕ → List ℕ → List ℕ → Check → Outcome → List ℕ → Type 0
 PricedBehind network request route c =
     Pricing (firstOf (recordChecks network request ++ c ∷ routeChecks network (requestValue request) route)) network (requestValue request) route
+
+-- Without meeting positions nothing is written.
+pub unwritten : {network request route before : List ℕ} {answer : Outcome}
+    → Pricing (firstOf (priceChecks network request route (length before))) network (requestValue request) route answer []
+    → PricedRoute network request route before before answer
+unwritten pricing = record { meetings = []; pricing = pricing; written = refl }
 
 module _ (network request : List ℕ) {read : RequestRead} (is : read ≡ requestOf network request) where
   pub records-read : read .verdict ≡ Accepted → SoundNetwork network × SoundValue (nodeCount network) (read .request)

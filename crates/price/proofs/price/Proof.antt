@@ -3,27 +3,18 @@ use mathlib.Core.Path.{refl}
 use borrow.Author.Needs.{needs}
 use borrow.Author.Tests.{lt-ltb, le-ltb}
 use Rattle.records.proofs.RequestLaws.{request-value}
-use Rattle.price.proofs.EntryLaws.{records-read, records-refused, check-refused, check-passed, meetings-written}
+use Rattle.price.proofs.EntryLaws.{unwritten, records-read, records-refused, check-refused, check-passed, meetings-written}
 use Rattle.price.proofs.price.Statement.{statement}
 use Rattle.price.proofs.price.Tie as tie
 
 returns : tie.Need-returns
-returns c =
-    record {
-      meetings = _;
-      pricing = records-refused _ _ (c .before .before .before .read-request .ensures) _ _ _ (c .before .verdict .given .1);
-      written = refl;
-    }
+returns c = unwritten (records-refused _ _ (c .before .before .before .read-request .ensures) _ _ _ (c .before .verdict .given .1))
 
 returns-2 : tie.Need-returns-2
 returns-2 c =
     let read = c .before .before .before .before .read-request .ensures in
     let accepted = c .before .before .enum-told .given .1 in
-    record {
-      meetings = _;
-      pricing = check-refused _ _ read _ _ accepted (rw (← request-value _ _ read accepted) (lt-ltb _ _ (c .if1 .taken)));
-      written = refl;
-    }
+    unwritten (check-refused _ _ read _ _ accepted (rw (← request-value _ _ read accepted) (lt-ltb _ _ (c .if1 .taken))))
 
 price-route-requires : tie.Need-price-route-requires
 price-route-requires c κs = records-read _ _ (c .before .before .before .before .read-request .ensures) (c .before .before .enum-told .given .1)
@@ -31,16 +22,11 @@ price-route-requires c κs = records-read _ _ (c .before .before .before .before
 returns-3 : tie.Need-returns-3
 returns-3 c =
     let told = c .enum-told3 .given .1 in
-    let at-q = c .before .before .before .before in
-    let accepted = at-q .before .enum-told .given .1 in
-    let read = at-q .before .before .before .read-request .ensures in
-    rw told
-    (record {
-      meetings = _;
-      pricing = check-passed _ _ read _ _ accepted (rw (← request-value _ _ read accepted) (le-ltb _ _ (c .before .before .before .if1 .left)))
-          (rw told at (c .before .before .price-route .ensures));
-      written = refl;
-    })
+    let at-if = c .before .before .before in
+    let accepted = at-if .before .before .enum-told .given .1 in
+    let read = at-if .before .before .before .before .read-request .ensures in
+    rw told (unwritten (check-passed _ _ read _ _ accepted (rw (← request-value _ _ read accepted) (le-ltb _ _ (at-if .if1 .left)))
+    (rw told at (c .before .before .price-route .ensures))))
 
 write-requires : tie.Need-write-requires
 write-requires c κs =

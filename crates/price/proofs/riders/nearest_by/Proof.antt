@@ -18,12 +18,6 @@ Inv-loop network distances route source spot₀ i₀ spot i = (i ≤ length rout
 abbrev μ-loop : tie.MeasureT-loop
 μ-loop network distances route source spot₀ i₀ spot i = length route - i
 
-mul-t9 : tie.Need-mul-t9 Inv-loop μ-loop
-mul-t9 c = omega (arith, c .before .before .before .pre .1)
-
-shared-slice-read-t11 : tie.Need-shared-slice-read-t11 Inv-loop μ-loop
-shared-slice-read-t11 c = omega (arith, c .before .before .before .before .pre .1)
-
 loop-holds : tie.Need-loop-holds Inv-loop μ-loop
 unfolding nodeAt
 loop-holds c = (omega arith, sofar-first _ refl)
@@ -45,12 +39,6 @@ below : (c : tie.After-to Inv-loop μ-loop) →
 below c =
     let entry = c .before .before .before .before .before .before .before .before in
     rw (reads c) (omega (arith, entry .pre .0, position-below (entry .pre .1) (c .before .before .before .loop .i + 1)))
-
-mul-closer : tie.Need-mul-closer Inv-loop μ-loop
-mul-closer c = omega (arith, below c)
-
-shared-slice-read-closer : tie.Need-shared-slice-read-closer Inv-loop μ-loop
-shared-slice-read-closer c = below (c .before)
 
 loop-again : tie.Need-loop-again Inv-loop μ-loop
 loop-again c =
@@ -74,14 +62,14 @@ nearest-by-spec =
     (tie.spec
     Inv-loop
     μ-loop
-    mul-t9
-    shared-slice-read-t11
+    (λ c. omega (arith, c .before .before .before .pre .1))
+    (λ c. omega (arith, c .before .before .before .before .pre .1))
     loop-holds
     (λ c κs. search needs)
     to-requires
     (λ c. search needs)
-    mul-closer
-    shared-slice-read-closer
+    (λ c. omega (arith, below c))
+    (λ c. below (c .before))
     (λ c κs. search needs)
     (λ c. search needs)
     (λ c. search needs)
