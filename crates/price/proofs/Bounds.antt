@@ -22,6 +22,7 @@ use Rattle.price.specs.Sound.{SoundRoute, drivingOf}
 use Rattle.price.proofs.RouteLaws.{route-sound}
 use Rattle.price.proofs.NearLaws.{position-below}
 use Rattle.price.proofs.MeetLaws.{MetBelow}
+use Rattle.price.proofs.EntryLaws.{PricedBehind, priced-told}
 
 driving-bounded : {network : List ℕ} {u v c : ℕ} {route : List ℕ} → Way (Drivable network) u v route c → c ≤ length route * (closed - 1)
 driving-bounded (arrived here free) = omega arith
@@ -64,21 +65,14 @@ module _ {network : List ℕ} {q : Request} {route : List ℕ} (may : SoundRoute
         adds = rw (way-sum (p .drives) (may .drives)) at (p .adds);
       }
 
--- Pricing by the records' checks, one check more (31, or the tablet's 38) and the route's.
 pub pricing-bounded : (network request route : List ℕ) (c : Check) {meetings : List ℕ} {answer : Outcome} {price : ℕ}
-    → Pricing (firstOf (recordChecks network request ++ c ∷ routeChecks network (requestValue request) route)) network (requestValue request)
-    route answer meetings
+    → PricedBehind network request route c answer meetings
     → answer ≡ gives (price ∷ [])
     → price ≤ mostPrice
 unfolding requestVerdict
-pricing-bounded network request route c {price = price} pricing told = elim pricing [
-  | refused x v e m ↦ clash (cc)
-  | stranded j v h s l e m ↦ clash (cc)
-  | priced p v costs z e ↦ (
-      let same : p ≡ price = cc in
-      let (sound, request-sound) = records-sound network request (accepted-front (recordChecks network request) _ v) in
-      let passes = accepted-head c _ (accepted-rest (recordChecks network request) _ v) .1 in
-      let may = route-sound network _ route sound (value-sound _ request request-sound) passes in
-      omega (arith, met-bounded may (price-met may costs))
-      )
-]
+pricing-bounded network request route c pricing told =
+    let (accepted, costs, count) = priced-told (rw told at pricing) in
+    let (sound, request-sound) = records-sound network request (accepted-front (recordChecks network request) _ accepted) in
+    let passes = accepted-head c _ (accepted-rest (recordChecks network request) _ accepted) .1 in
+    let may = route-sound network _ route sound (value-sound _ request request-sound) passes in
+    met-bounded may (price-met may costs)

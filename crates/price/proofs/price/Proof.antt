@@ -1,9 +1,13 @@
 -- The records' refusals, 31, and then the route's answer, whose meeting positions are written beside a price.
-use mathlib.Core.Path.{refl}
+use mathlib.Core.Path.{refl, sym}
+use lib.ListN.{take}
+use lib.Seq.{getD-take}
 use borrow.Author.Needs.{needs}
 use borrow.Author.Tests.{lt-ltb, le-ltb}
+use Rattle.rules.specs.Request.{riderCountOf}
+use Rattle.rules.proofs.WritingLaws.{written-all}
 use Rattle.records.proofs.RequestLaws.{request-value}
-use Rattle.price.proofs.EntryLaws.{unwritten, records-read, records-refused, check-refused, check-passed, meetings-written}
+use Rattle.price.proofs.EntryLaws.{unwritten, records-read, records-refused, check-refused, check-passed, priced-told}
 use Rattle.price.proofs.price.Statement.{statement}
 use Rattle.price.proofs.price.Tie as tie
 
@@ -37,15 +41,19 @@ write-requires c κs =
 returns-4 : tie.Need-returns-4
 returns-4 c =
     let at-priced = c .before .before .before .before .before .before .before in
+    let at-read = at-priced .before .before .before .before .before in
     let told = c .before .before .before .before .before .enum-told2 .given .1 in
     let accepted = at-priced .before .before .before .enum-told .given .1 in
-    let read = at-priced .before .before .before .before .before .read-request .ensures in
+    let read = at-read .read-request .ensures in
     let pricing = rw told at (at-priced .price-route .ensures) in
+    let count = riderCountOf (at-read .read-request .result .request) in
+    let positions = at-priced .price-route .result .meetings in
     rw told
     (record {
-      meetings = _;
+      meetings = take count positions;
       pricing = check-passed _ _ read _ _ accepted (rw (← request-value _ _ read accepted) (le-ltb _ _ (at-priced .before .if1 .left))) pricing;
-      written = meetings-written _ pricing (c .before .before .write .ensures);
+      written = written-all (take count positions) (c .before .before .write .ensures) (priced-told pricing .2)
+          (λ j h. sym (getD-take count positions j 0 h));
     })
 
 pub price-spec : {M : Type 1} → statement M
