@@ -3,16 +3,15 @@ use Prim.Native.Nat.{ℕ, zero, suc, _+_, _-_, _*_, _≤_, _<_}
 use native.Mathlib.Omega.{arith}
 use native.Mathlib.Nat.{mul-le-mul}
 use mathlib.Core.Path.{_≡_}
-use mathlib.Core.List.{List, [], _∷_, _++_}
+use mathlib.Core.List.{List, [], _∷_}
 use lib.ListN.{length}
 use Rattle.rules.specs.Limits.{mostWeight, mostRiders, closed, longestRoute}
-use Rattle.rules.specs.Request.{riderWeightOf, recordChecks, requestVerdict, requestValue, riderCountOf}
+use Rattle.rules.specs.Request.{riderWeightOf, recordChecks, requestVerdict, riderCountOf}
 use Rattle.rules.specs.Walks.{Way, arrived, along}
-use Rattle.rules.specs.Routes.{Drivable, Price, sum, routeChecks}
-use Rattle.rules.specs.Answers.{Outcome, gives, Pricing, refused, stranded, priced}
-use Rattle.rules.specs.Checks.{Check, firstOf}
+use Rattle.rules.specs.Routes.{Drivable, Price, sum}
+use Rattle.rules.specs.Answers.{Outcome, gives}
+use Rattle.rules.specs.Checks.{Check}
 use Rattle.rules.specs.declared.Request.{Request}
-use Rattle.rules.proofs.Clash.{clash}
 use Rattle.rules.proofs.Order.{accepted-head, accepted-front, accepted-rest}
 use Rattle.rules.proofs.SoundRequestLaws.{records-sound, value-sound}
 use Rattle.rules.proofs.WalkLaws.{way-sum}

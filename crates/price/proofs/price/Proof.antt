@@ -1,5 +1,5 @@
 -- The records' refusals, 31, and then the route's answer, whose meeting positions are written beside a price.
-use mathlib.Core.Path.{refl, sym}
+use mathlib.Core.Path.{sym}
 use lib.ListN.{take}
 use lib.Seq.{getD-take}
 use borrow.Author.Needs.{needs}
