@@ -6,9 +6,9 @@ use mathlib.Core.Path.{_≡_}
 use mathlib.Core.List.{List, [], _∷_}
 use lib.ListN.{length}
 use Rattle.rules.specs.Limits.{mostWeight, mostRiders, closed, longestRoute}
-use Rattle.rules.specs.Request.{riderWeightOf, recordChecks, requestVerdict, riderCountOf}
+use Rattle.rules.specs.Request.{riderWeightOf, recordChecks, requestVerdict}
 use Rattle.rules.specs.Walks.{Way, arrived, along}
-use Rattle.rules.specs.Routes.{Drivable, Price, sum}
+use Rattle.rules.specs.Routes.{Drivable, sum}
 use Rattle.rules.specs.Answers.{Outcome, gives}
 use Rattle.rules.specs.Checks.{Check}
 use Rattle.rules.specs.declared.Request.{Request}
@@ -33,45 +33,33 @@ sum-bounded most zero f small = omega arith
 sum-bounded most (suc count) f small =
     omega (arith, small count (omega arith), sum-bounded most count f (λ j h. small j (omega arith)))
 
--- what driving a route, and one rider's walk, cost at their most
-abbrev mostDriving : ℕ
-mostDriving = mostWeight * (longestRoute * (closed - 1))
-
+-- what one rider's walk costs at its most
 abbrev mostWalking : ℕ
 mostWalking = mostWeight * longestWalk
 
 abbrev pub mostPrice : ℕ
-mostPrice = mostDriving + mostRiders * mostWalking
+mostPrice = mostWeight * (longestRoute * (closed - 1)) + mostRiders * mostWalking
 
-module _ {network : List ℕ} {q : Request} {route : List ℕ} (may : SoundRoute network q route) where
-  pub met-bounded : {j price : ℕ} {meetings : List ℕ} → MetBelow network q route j price meetings → price ≤ mostPrice
-  met-bounded {j} so =
-      let far : drivingOf network route ≤ longestRoute * (closed - 1) = omega (arith, may .few, driving-bounded (may .drives)) in
-      let drives = mul-le-mul (may .value .bus .1) far in
-      let walks = sum-bounded mostWalking j (λ i. riderWeightOf q i * so .walking i)
-      (λ i h. mul-le-mul (may .value .weights i (omega (arith, so .within)) .1)
-      (rider-bounded (may .sound) (position-below may _) (so .meets i h .walks))) in
-      omega (arith, so .adds, so .within, may .value .riders, drives, walks)
-
-  -- A price is that of all riders met.
-  price-met : {price : ℕ} {meetings : List ℕ} → Price network q route meetings price
-      → MetBelow network q route (riderCountOf q) price meetings
-  price-met p =
-      record {
-        within = omega arith;
-        walking = p .walking;
-        meets = p .meets;
-        adds = rw (way-sum (p .drives) (may .drives)) at (p .adds);
-      }
+pub met-bounded : {network : List ℕ} {q : Request} {route : List ℕ} {j price : ℕ} {meetings : List ℕ} → SoundRoute network q route
+    → MetBelow network q route j price meetings → price ≤ mostPrice
+met-bounded {network} {q} {route} {j} may so =
+    let far : drivingOf network route ≤ longestRoute * (closed - 1) = omega (arith, may .few, driving-bounded (may .drives)) in
+    let drives = mul-le-mul (may .value .bus .1) far in
+    let walks = sum-bounded mostWalking j (λ i. riderWeightOf q i * so .walking i)
+    (λ i h. mul-le-mul (may .value .weights i (omega (arith, so .within)) .1)
+    (rider-bounded (may .sound) (position-below may _) (so .meets i h .walks))) in
+    omega (arith, so .adds, so .within, may .value .riders, drives, walks)
 
 pub pricing-bounded : (network request route : List ℕ) (c : Check) {meetings : List ℕ} {answer : Outcome} {price : ℕ}
     → PricedBehind network request route c answer meetings
     → answer ≡ gives (price ∷ [])
     → price ≤ mostPrice
 unfolding requestVerdict
-pricing-bounded network request route c pricing told =
+pricing-bounded network request route c {meetings} pricing told =
     let (accepted, costs, count) = priced-told (rw told at pricing) in
     let (sound, request-sound) = records-sound network request (accepted-front (recordChecks network request) _ accepted) in
     let passes = accepted-head c _ (accepted-rest (recordChecks network request) _ accepted) .1 in
     let may = route-sound network _ route sound (value-sound _ request request-sound) passes in
-    met-bounded may (price-met may costs)
+    let driven = way-sum (costs .drives) (may .drives) in
+    met-bounded {meetings = meetings} may
+    (record { within = omega arith; walking = costs .walking; meets = costs .meets; adds = rw driven at (costs .adds) })

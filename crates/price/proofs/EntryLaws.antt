@@ -32,15 +32,15 @@ pub unwritten : {network request route before : List ℕ} {answer : Outcome}
 unwritten pricing = record { meetings = []; pricing = pricing; written = refl }
 
 module _ (network request : List ℕ) {read : RequestRead} (is : read ≡ requestOf network request) where
-  pub records-read : read .verdict ≡ Accepted → SoundNetwork network × SoundValue (nodeCount network) (read .request)
-  records-read accepted =
+  pub read-sound : read .verdict ≡ Accepted → SoundNetwork network × SoundValue (nodeCount network) (read .request)
+  read-sound accepted =
       let (sound, request-sound) = records-sound network request (request-accepted network request is accepted) in
       (sound, rw (request-value network request is accepted) (value-sound _ request request-sound))
 
   module _ (route : List ℕ) (c : Check) where
-    pub records-refused : (r : Refusal) → read .verdict ≡ NotAccepted r → PricedBehind network request route c (refuses (r .number) (r .place)) []
+    pub read-refused : (r : Refusal) → read .verdict ≡ NotAccepted r → PricedBehind network request route c (refuses (r .number) (r .place)) []
     unfolding requestVerdict
-    records-refused r told =
+    read-refused r told =
         refused r (front-refused (recordChecks network request) _ r (sym (request-verdict network request is) ∙ told)) refl refl
 
     module _ (accepted : read .verdict ≡ Accepted) where

@@ -7,12 +7,12 @@ use borrow.Author.Tests.{lt-ltb, le-ltb}
 use Rattle.rules.specs.Request.{riderCountOf}
 use Rattle.rules.proofs.WritingLaws.{written-all}
 use Rattle.records.proofs.RequestLaws.{request-value}
-use Rattle.price.proofs.EntryLaws.{unwritten, records-read, records-refused, check-refused, check-passed, priced-told}
+use Rattle.price.proofs.EntryLaws.{unwritten, read-sound, read-refused, check-refused, check-passed, priced-told}
 use Rattle.price.proofs.price.Statement.{statement}
 use Rattle.price.proofs.price.Tie as tie
 
 returns : tie.Need-returns
-returns c = unwritten (records-refused _ _ (c .before .before .before .read-request .ensures) _ _ _ (c .before .verdict .given .1))
+returns c = unwritten (read-refused _ _ (c .before .before .before .read-request .ensures) _ _ _ (c .before .verdict .given .1))
 
 returns-2 : tie.Need-returns-2
 returns-2 c =
@@ -21,7 +21,7 @@ returns-2 c =
     unwritten (check-refused _ _ read _ _ accepted (rw (← request-value _ _ read accepted) (lt-ltb _ _ (c .if1 .taken))))
 
 price-route-requires : tie.Need-price-route-requires
-price-route-requires c κs = records-read _ _ (c .before .before .before .before .read-request .ensures) (c .before .before .enum-told .given .1)
+price-route-requires c κs = read-sound _ _ (c .before .before .before .before .read-request .ensures) (c .before .before .enum-told .given .1)
 
 returns-3 : tie.Need-returns-3
 returns-3 c =
@@ -36,7 +36,7 @@ write-requires : tie.Need-write-requires
 write-requires c κs =
     let at-if = c .before .before .before .before .before in
     let accepted = at-if .before .before .enum-told .given .1 in
-    (records-read _ _ (at-if .before .before .before .before .read-request .ensures) accepted .1 .riders, at-if .if1 .left)
+    (read-sound _ _ (at-if .before .before .before .before .read-request .ensures) accepted .1 .riders, at-if .if1 .left)
 
 returns-4 : tie.Need-returns-4
 returns-4 c =

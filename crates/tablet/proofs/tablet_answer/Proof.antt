@@ -6,17 +6,15 @@ use borrow.Author.Tests.{eq-eqb, ne-eqb}
 use Rattle.rules.specs.Checks.{refuse}
 use Rattle.rules.specs.Answers.{refused}
 use Rattle.price.proofs.RouteLaws.{route-32}
-use Rattle.price.proofs.EntryLaws.{records-read, records-refused, check-refused, check-passed}
+use Rattle.price.proofs.EntryLaws.{read-sound, read-refused, check-refused, check-passed}
 use Rattle.tablet.proofs.RouteLaws.{route-size, decoded-route}
 use Rattle.tablet.proofs.tablet_answer.Statement.{statement}
 use Rattle.tablet.proofs.tablet_answer.Tie as tie
 
 returns : tie.Need-returns
 returns c =
-    record {
-      meetings = _;
-      pricing = records-refused _ _ (c .before .before .before .read-request .ensures) _ _ _ (c .before .verdict .given .1);
-    }
+    let read = c .before .before .before .read-request .ensures in
+    record { meetings = _; pricing = read-refused _ _ read _ _ _ (c .before .verdict .given .1) }
 
 returns-2 : tie.Need-returns-2
 returns-2 c =
@@ -35,7 +33,7 @@ returns-3 c =
 price-route-requires : tie.Need-price-route-requires
 price-route-requires c κs =
     let told = c .before .before .before .before .before .before .before in
-    records-read _ _ (told .before .before .read-request .ensures) (told .enum-told .given .1)
+    read-sound _ _ (told .before .before .read-request .ensures) (told .enum-told .given .1)
 
 returns-4 : tie.Need-returns-4
 returns-4 c =
