@@ -37,13 +37,13 @@ fn tablet_answer(network: &[u8], request: &[u8], route: &[u8]) -> Priced
     if let Verdict::Refused(r) = verdict {
         return Priced::Refused(r);
     }
+    let count = route.len() / 2;
     if route.len() % 2 != 0 {
         return Priced::Refused(Refusal {
             number: 38,
             place: 0,
         });
     }
-    let count = route.len() / 2;
     if LONGEST_ROUTE < count {
         return Priced::Refused(Refusal {
             number: 32,

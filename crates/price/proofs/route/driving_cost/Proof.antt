@@ -35,14 +35,14 @@ loop-again c =
 
 mul-result : tie.Need-mul-result Inv-loop μ-loop
 mul-result c =
-    let far : c .before .before .loop .driving ≤ closed * longestRoute = omega arith in
-    omega (arith, mul-le-mul (c .before .before .loop .inv .0 .value .bus .1) far)
+    let far : c .before .loop .driving ≤ closed * longestRoute = omega arith in
+    omega (arith, mul-le-mul (c .before .loop .inv .0 .value .bus .1) far)
 
 returns : tie.Need-returns Inv-loop μ-loop
 returns c =
-    let entry = c .before .before .before .before .before in
-    let all : c .before .before .loop .i ≡ length (entry .args .route .now) = omega arith in
-    ap (λ (x : ℕ). entry .args .q .«bus_weight» * x) (rw all at (c .before .before .loop .inv .2))
+    let entry = c .before .before .before .before in
+    let all : c .before .loop .i ≡ length (entry .args .route .now) = omega arith in
+    ap (λ (x : ℕ). entry .args .q .«bus_weight» * x) (rw all at (c .before .loop .inv .2))
 
 pub driving-cost-spec : {M : Type 1} → statement M
 driving-cost-spec =
