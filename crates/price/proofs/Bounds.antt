@@ -33,19 +33,15 @@ sum-bounded most zero f small = omega arith
 sum-bounded most (suc count) f small =
     omega (arith, small count (omega arith), sum-bounded most count f (λ j h. small j (omega arith)))
 
--- what one rider's walk costs at its most
-abbrev mostWalking : ℕ
-mostWalking = mostWeight * longestWalk
-
 abbrev pub mostPrice : ℕ
-mostPrice = mostWeight * (longestRoute * (closed - 1)) + mostRiders * mostWalking
+mostPrice = mostWeight * (longestRoute * (closed - 1)) + mostRiders * (mostWeight * longestWalk)
 
 pub met-bounded : {network : List ℕ} {q : Request} {route : List ℕ} {j price : ℕ} {meetings : List ℕ} → SoundRoute network q route
     → MetBelow network q route j price meetings → price ≤ mostPrice
 met-bounded {network} {q} {route} {j} may so =
     let far : drivingOf network route ≤ longestRoute * (closed - 1) = omega (arith, may .few, driving-bounded (may .drives)) in
     let drives = mul-le-mul (may .value .bus .1) far in
-    let walks = sum-bounded mostWalking j (λ i. riderWeightOf q i * so .walking i)
+    let walks = sum-bounded (mostWeight * longestWalk) j (λ i. riderWeightOf q i * so .walking i)
     (λ i h. mul-le-mul (may .value .weights i (omega (arith, so .within)) .1)
     (rider-bounded (may .sound) (position-below may _) (so .meets i h .walks))) in
     omega (arith, so .adds, so .within, may .value .riders, drives, walks)

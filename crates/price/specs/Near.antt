@@ -16,7 +16,7 @@ pub record Sofar (value : ℕ → ℕ) (count : ℕ) (spot : Spot) : Type 0 wher
   pub least : (other : ℕ) → other < count → spot .distance ≤ value other
   pub earliest : (other : ℕ) → other < spot .position → spot .distance < value other
 
--- The earliest position of the route at which the place of rider j's way to its node is least.
+-- Of the route's positions the earliest whose place, which holds rider j's way to its node, is least (2.7).
 pub record Nearest (network : List ℕ) (q : Request) (j : ℕ) (route : List ℕ) (spot : Spot) : Type 0 where
   pub place : ℕ → ℕ
   pub holds : (position : ℕ) → RiderHolds network q j (nodeAt network (q .source) route position) (place position)

@@ -3,6 +3,7 @@ use Prim.Native.Nat.{ℕ, _+_, _%_, _≤_, _<_}
 use native.Mathlib.Omega.{arith}
 use mathlib.Core.Path.{_≡_, refl, _∙_, ap}
 use mathlib.Core.Logic.{_↔_, _≢_, _⊎_, inl, inr}
+use mathlib.Core.Bool.{not}
 use mathlib.Core.List.{List, [], _∷_}
 use lib.ListN.{length}
 use borrow.Author.Tests.{ne-eqb}
@@ -58,6 +59,6 @@ module _ {network request bytes : List ℕ} {number : ℕ} (so : Tablet network 
       tablet-unique so
       (record {
         answer = refuses 38 0;
-        priced = record { meetings = []; pricing = check-refused network request refl (routeOf bytes) _ accepted (simp (ne-eqb _ _ odd)) };
+        priced = record { meetings = []; pricing = check-refused network request refl (routeOf bytes) _ accepted (ap not (ne-eqb _ _ odd)) };
         tells = refl;
       })

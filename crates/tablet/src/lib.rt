@@ -11,7 +11,7 @@ use rules::Refusal;
 use rules::Verdict;
 ghost use Rattle.rules.specs.Answers.{pricedOutcome, Tablet, TabletPriced};
 
-// Prices a route whose link numbers come as bytes, the high one first. From FIRST_REFUSAL on, the answer is a refusal's
+// Prices a route whose link numbers come as bytes, the high one first: gives the price, or FIRST_REFUSAL plus a refusal's
 // number.
 #[no_mangle]
 pub extern "C" fn tivelgor_tablet_price(network: &[u8], request: &[u8], route: &[u8]) -> u64

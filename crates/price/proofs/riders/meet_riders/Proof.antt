@@ -32,8 +32,9 @@ returns c =
 
 -- What the rider walks costs little.
 walk-small : (c : tie.After-struct-known2 Inv-loop μ-loop) →
-    let entry = c .before .before .before .before .before .before .before .before .before .before in
-    getD (entry .args .q .weights) (c .before .before .before .before .before .loop .j) 0 * c .before .before .nearest .result .distance
+    let at-loop = c .before .before .before .before .before in
+    let entry = at-loop .before .before .before .before .before in
+    getD (entry .args .q .weights) (at-loop .loop .j) 0 * c .before .before .nearest .result .distance
     ≤ mostWeight * noDistance
 walk-small c =
     let at-loop = c .before .before .before .before .before .loop in
