@@ -3,16 +3,15 @@ use Prim.Native.Nat.{ℕ, zero, suc, _+_, _-_, _*_, _≤_, _<_}
 use native.Mathlib.Omega.{arith}
 use native.Mathlib.Nat.{mul-le-mul}
 use mathlib.Core.Path.{_≡_}
-use mathlib.Core.List.{List, [], _∷_, _++_}
+use mathlib.Core.List.{List, [], _∷_}
 use lib.ListN.{length}
 use Rattle.rules.specs.Limits.{mostWeight, mostRiders, closed, longestRoute}
-use Rattle.rules.specs.Request.{riderWeightOf, recordChecks, requestVerdict, requestValue, riderCountOf}
+use Rattle.rules.specs.Request.{riderWeightOf, recordChecks, requestVerdict}
 use Rattle.rules.specs.Walks.{Way, arrived, along}
-use Rattle.rules.specs.Routes.{Drivable, Price, sum, routeChecks}
-use Rattle.rules.specs.Answers.{Outcome, gives, Pricing, refused, stranded, priced}
-use Rattle.rules.specs.Checks.{Check, firstOf}
+use Rattle.rules.specs.Routes.{Drivable, sum}
+use Rattle.rules.specs.Answers.{Outcome, gives}
+use Rattle.rules.specs.Checks.{Check}
 use Rattle.rules.specs.declared.Request.{Request}
-use Rattle.rules.proofs.Clash.{clash}
 use Rattle.rules.proofs.Order.{accepted-head, accepted-front, accepted-rest}
 use Rattle.rules.proofs.SoundRequestLaws.{records-sound, value-sound}
 use Rattle.rules.proofs.WalkLaws.{way-sum}
@@ -22,6 +21,7 @@ use Rattle.price.specs.Sound.{SoundRoute, drivingOf}
 use Rattle.price.proofs.RouteLaws.{route-sound}
 use Rattle.price.proofs.NearLaws.{position-below}
 use Rattle.price.proofs.MeetLaws.{MetBelow}
+use Rattle.price.proofs.EntryLaws.{PricedBehind, priced-told}
 
 driving-bounded : {network : List ℕ} {u v c : ℕ} {route : List ℕ} → Way (Drivable network) u v route c → c ≤ length route * (closed - 1)
 driving-bounded (arrived here free) = omega arith
@@ -33,52 +33,29 @@ sum-bounded most zero f small = omega arith
 sum-bounded most (suc count) f small =
     omega (arith, small count (omega arith), sum-bounded most count f (λ j h. small j (omega arith)))
 
--- what driving a route, and one rider's walk, cost at their most
-abbrev mostDriving : ℕ
-mostDriving = mostWeight * (longestRoute * (closed - 1))
-
-abbrev mostWalking : ℕ
-mostWalking = mostWeight * longestWalk
-
 abbrev pub mostPrice : ℕ
-mostPrice = mostDriving + mostRiders * mostWalking
+mostPrice = mostWeight * (longestRoute * (closed - 1)) + mostRiders * (mostWeight * longestWalk)
 
-module _ {network : List ℕ} {q : Request} {route : List ℕ} (may : SoundRoute network q route) where
-  pub met-bounded : {j price : ℕ} {meetings : List ℕ} → MetBelow network q route j price meetings → price ≤ mostPrice
-  met-bounded {j} so =
-      let far : drivingOf network route ≤ longestRoute * (closed - 1) = omega (arith, may .few, driving-bounded (may .drives)) in
-      let drives = mul-le-mul (may .value .bus .1) far in
-      let walks = sum-bounded mostWalking j (λ i. riderWeightOf q i * so .walking i)
-      (λ i h. mul-le-mul (may .value .weights i (omega (arith, so .within)) .1)
-      (rider-bounded (may .sound) (position-below may _) (so .meets i h .walks))) in
-      omega (arith, so .adds, so .within, may .value .riders, drives, walks)
+pub met-bounded : {network : List ℕ} {q : Request} {route : List ℕ} {j price : ℕ} {meetings : List ℕ} → SoundRoute network q route
+    → MetBelow network q route j price meetings → price ≤ mostPrice
+met-bounded {network} {q} {route} {j} may so =
+    let far : drivingOf network route ≤ longestRoute * (closed - 1) = omega (arith, may .few, driving-bounded (may .drives)) in
+    let drives = mul-le-mul (may .value .bus .1) far in
+    let walks = sum-bounded (mostWeight * longestWalk) j (λ i. riderWeightOf q i * so .walking i)
+    (λ i h. mul-le-mul (may .value .weights i (omega (arith, so .within)) .1)
+    (rider-bounded (may .sound) (position-below may _) (so .meets i h .walks))) in
+    omega (arith, so .adds, so .within, may .value .riders, drives, walks)
 
-  -- A price is that of all riders met.
-  price-met : {price : ℕ} {meetings : List ℕ} → Price network q route meetings price
-      → MetBelow network q route (riderCountOf q) price meetings
-  price-met p =
-      record {
-        within = omega arith;
-        walking = p .walking;
-        meets = p .meets;
-        adds = rw (way-sum (p .drives) (may .drives)) at (p .adds);
-      }
-
--- Pricing by the records' checks, one check more (31, or the tablet's 38) and the route's.
 pub pricing-bounded : (network request route : List ℕ) (c : Check) {meetings : List ℕ} {answer : Outcome} {price : ℕ}
-    → Pricing (firstOf (recordChecks network request ++ c ∷ routeChecks network (requestValue request) route)) network (requestValue request)
-    route answer meetings
+    → PricedBehind network request route c answer meetings
     → answer ≡ gives (price ∷ [])
     → price ≤ mostPrice
 unfolding requestVerdict
-pricing-bounded network request route c {price = price} pricing told = elim pricing [
-  | refused x v e m ↦ clash (cc)
-  | stranded j v h s l e m ↦ clash (cc)
-  | priced p v costs z e ↦ (
-      let same : p ≡ price = cc in
-      let (sound, request-sound) = records-sound network request (accepted-front (recordChecks network request) _ v) in
-      let passes = accepted-head c _ (accepted-rest (recordChecks network request) _ v) .1 in
-      let may = route-sound network _ route sound (value-sound _ request request-sound) passes in
-      omega (arith, met-bounded may (price-met may costs))
-      )
-]
+pricing-bounded network request route c {meetings} pricing told =
+    let (accepted, costs, count) = priced-told (rw told at pricing) in
+    let (sound, request-sound) = records-sound network request (accepted-front (recordChecks network request) _ accepted) in
+    let passes = accepted-head c _ (accepted-rest (recordChecks network request) _ accepted) .1 in
+    let may = route-sound network _ route sound (value-sound _ request request-sound) passes in
+    let driven = way-sum (costs .drives) (may .drives) in
+    met-bounded {meetings = meetings} may
+    (record { within = omega arith; walking = costs .walking; meets = costs .meets; adds = rw driven at (costs .adds) })

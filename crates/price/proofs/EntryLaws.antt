@@ -1,17 +1,15 @@
 -- What is answered before a route's own refusals, by pricing and by the tablet: the records' refusals, and one check more (31, or the
--- tablet's 38). And the meeting positions in their room.
+-- tablet's 38).
 use Prim.Native.Nat.{ℕ}
 use mathlib.Core.Path.{_≡_, refl, sym, _∙_}
 use mathlib.Core.Bool.{true, false}
 use mathlib.Core.List.{List, [], _∷_, _++_}
-use lib.ListN.{getD, take}
-use lib.Seq.{getD-take}
+use lib.ListN.{length}
 use Rattle.rules.specs.Checks.{Check, refuse, firstOf}
 use Rattle.rules.specs.Network.{SoundNetwork, nodeCount}
 use Rattle.rules.specs.Request.{SoundValue, recordChecks, requestVerdict, requestValue, requestOf, riderCountOf}
-use Rattle.rules.specs.Routes.{routeChecks}
-use Rattle.rules.specs.Rooms.{Written, WrittenTo}
-use Rattle.rules.specs.Answers.{Outcome, gives, refuses, Pricing, refused, stranded, priced}
+use Rattle.rules.specs.Routes.{Price, routeChecks}
+use Rattle.rules.specs.Answers.{Outcome, gives, refuses, Pricing, refused, stranded, priced, priceChecks, PricedRoute}
 use Rattle.rules.specs.declared.Refusal.{Refusal}
 use Rattle.rules.specs.declared.Request.{Request}
 use Rattle.rules.specs.declared.RequestRead.{RequestRead}
@@ -20,7 +18,6 @@ use Rattle.rules.specs.declared.Verdict.the-variants.{Accepted, Refused as NotA
 use Rattle.rules.proofs.Clash.{clash}
 use Rattle.rules.proofs.Order.{given, passed, front-refused, front-passed}
 use Rattle.rules.proofs.SoundRequestLaws.{records-sound, value-sound}
-use Rattle.rules.proofs.WritingLaws.{written-all}
 use Rattle.records.proofs.RequestLaws.{request-verdict, request-accepted, request-value}
 
 -- How pricing ends behind the records' checks and the check c.
@@ -28,16 +25,22 @@ abbrev pub PricedBehind : List ℕ → List ℕ → List ℕ → Check → Outco
 PricedBehind network request route c =
     Pricing (firstOf (recordChecks network request ++ c ∷ routeChecks network (requestValue request) route)) network (requestValue request) route
 
+-- Without meeting positions nothing is written.
+pub unwritten : {network request route before : List ℕ} {answer : Outcome}
+    → Pricing (firstOf (priceChecks network request route (length before))) network (requestValue request) route answer []
+    → PricedRoute network request route before before answer
+unwritten pricing = record { meetings = []; pricing = pricing; written = refl }
+
 module _ (network request : List ℕ) {read : RequestRead} (is : read ≡ requestOf network request) where
-  pub records-read : read .verdict ≡ Accepted → SoundNetwork network × SoundValue (nodeCount network) (read .request)
-  records-read accepted =
+  pub read-sound : read .verdict ≡ Accepted → SoundNetwork network × SoundValue (nodeCount network) (read .request)
+  read-sound accepted =
       let (sound, request-sound) = records-sound network request (request-accepted network request is accepted) in
       (sound, rw (request-value network request is accepted) (value-sound _ request request-sound))
 
   module _ (route : List ℕ) (c : Check) where
-    pub records-refused : (r : Refusal) → read .verdict ≡ NotAccepted r → PricedBehind network request route c (refuses (r .number) (r .place)) []
+    pub read-refused : (r : Refusal) → read .verdict ≡ NotAccepted r → PricedBehind network request route c (refuses (r .number) (r .place)) []
     unfolding requestVerdict
-    records-refused r told =
+    read-refused r told =
         refused r (front-refused (recordChecks network request) _ r (sym (request-verdict network request is) ∙ told)) refl refl
 
     module _ (accepted : read .verdict ≡ Accepted) where
@@ -54,12 +57,10 @@ module _ (network request : List ℕ) {read : RequestRead} (is : read ≡ reques
           → PricedBehind network request route c answer meetings
       check-passed e pricing = rw (past-records ∙ passed _ _ _ e) (rw (request-value network request is accepted) at pricing)
 
--- The meeting positions of a price, written one by one, stand at the start of the room.
-pub meetings-written : {v : Verdict} {network : List ℕ} {q : Request} {route : List ℕ} {price : ℕ} (positions : List ℕ) {before after : List ℕ}
-    → Pricing v network q route (gives (price ∷ [])) (take (riderCountOf q) positions)
-    → WrittenTo (λ j. getD positions j 0) (riderCountOf q) before after
-    → Written (take (riderCountOf q) positions) before after
-meetings-written positions (refused r is told none) written = clash (cc)
-meetings-written positions (stranded j is h lost first told none) written = clash (cc)
-meetings-written {q = q} positions (priced p is so size told) written =
-    written-all (take (riderCountOf q) positions) written size (λ j h. sym (getD-take (riderCountOf q) positions j 0 h))
+-- A price comes once everything else is accepted, with a meeting position for each rider.
+pub priced-told : {v : Verdict} {network : List ℕ} {q : Request} {route : List ℕ} {price : ℕ} {meetings : List ℕ}
+    → Pricing v network q route (gives (price ∷ [])) meetings
+    → (v ≡ Accepted) × Price network q route meetings price × (length meetings ≡ riderCountOf q)
+priced-told (refused r is told none) = clash (cc)
+priced-told (stranded j is h lost first told none) = clash (cc)
+priced-told {price = price} (priced p is so size told) = let same : p ≡ price = cc in (is, rw same at so, size)

@@ -27,18 +27,6 @@ pub record MetBelow (network : List ℕ) (q : Request) (route : List ℕ) (j pri
   pub meets : (i : ℕ) → i < j → Meeting network q route i (getD meetings i 0) (walking i)
   pub adds : price ≡ busWeightOf q * drivingOf network route + sum j (λ i. riderWeightOf q i * walking i)
 
--- f, with another value at j
-replaced : (ℕ → ℕ) → ℕ → ℕ → ℕ → ℕ
-replaced f j x i = cond (eqb i j) x (f i)
-
-replaced-same : (f : ℕ → ℕ) (j x : ℕ) → replaced f j x j ≡ x
-unfolding replaced
-replaced-same f j x = simp (eq-eqb j j refl)
-
-replaced-other : (f : ℕ → ℕ) (j x i : ℕ) → i ≢ j → replaced f j x i ≡ f i
-unfolding replaced
-replaced-other f j x i h = simp (ne-eqb i j h)
-
 module _ {network : List ℕ} {q : Request} {route : List ℕ} where
   pub met-none : {price : ℕ} {meetings : List ℕ} → price ≡ busWeightOf q * drivingOf network route → MetBelow network q route 0 price meetings
   unfolding sum
@@ -53,18 +41,23 @@ module _ {network : List ℕ} {q : Request} {route : List ℕ} where
           within = omega arith;
           walking = walking;
           meets = λ i h. elim (ℕ-discrete i j) [
-            | yes e ↦ rw (e, replaced-same (so .walking) j place, getD-set-same meetings j position 0 room) meeting
-            | no e ↦ rw (replaced-other (so .walking) j place i e, getD-set-other meetings j i position 0 e) (so .meets i (omega arith))
+            | yes e ↦ rw (e, here, getD-set-same meetings j position 0 room) meeting
+            | no e ↦ rw (there i e, getD-set-other meetings j i position 0 e) (so .meets i (omega arith))
           ];
-          adds =
-              rw (sum-more j (λ i. riderWeightOf q i * walking i), earlier, replaced-same (so .walking) j place) (omega (arith, so .adds));
+          adds = rw (sum-more j (λ i. riderWeightOf q i * walking i), earlier, here) (omega (arith, so .adds));
         }
       where
         walking : ℕ → ℕ
-        walking = replaced (so .walking) j place
+        walking i = cond (eqb i j) place (so .walking i)
+
+        here : walking j ≡ place
+        here = simp (eq-eqb j j refl)
+
+        there : (i : ℕ) → i ≢ j → walking i ≡ so .walking i
+        there i h = simp (ne-eqb i j h)
 
         earlier : sum j (λ i. riderWeightOf q i * walking i) ≡ sum j (λ i. riderWeightOf q i * so .walking i)
-        earlier = sum-same j _ _ (λ i h. ap (λ (x : ℕ). riderWeightOf q i * x) (replaced-other (so .walking) j place i (omega arith)))
+        earlier = sum-same j _ _ (λ i h. ap (λ (x : ℕ). riderWeightOf q i * x) (there i (omega arith)))
 
     -- a rider who can walk to no position, the first
     pub met-stranded : j < riderCountOf q → Stranded network q route j → Pricing Accepted network q route (refuses 37 j) []

@@ -17,7 +17,8 @@ use Rattle.rules.specs.Routes.{Drivable, nodeAt, sum, drivenLinkChecks, routeLi
 use Rattle.rules.specs.declared.Refusal.{Refusal}
 use Rattle.rules.specs.declared.Request.{Request}
 use Rattle.rules.specs.declared.Verdict.the-variants.{Accepted, Refused}
-use Rattle.rules.proofs.Order.{passed, front-refused, front-passed, accepted-head, accepted-front, accepted-rest, accepted-each}
+use Rattle.rules.proofs.Order.{passed, Passed, passed-until, passed-all, front-refused, front-passed}
+use Rattle.rules.proofs.Order.{accepted-head, accepted-front, accepted-rest, accepted-each}
 use Rattle.rules.proofs.TestLaws.{same}
 use Rattle.price.specs.Sound.{SoundRoute, drivingOf}
 
@@ -95,22 +96,25 @@ module _ (network : List ℕ) (q : Request) (route : List ℕ) where
     unfolding routeChecks
     past-32 = passed 32 0 _ (le-ltb _ _ few)
 
-    pub route-link : (r : Refusal) → firstOf (each (routeLinkChecks network q route) (length route) 0) ≡ Refused r
-        → firstOf (routeChecks network q route) ≡ Refused r
-    route-link r e = past-32 ∙ front-refused _ _ r e
+    -- The first i links have passed, and lead to `node`.
+    module _ (i : ℕ) (so : Passed (routeLinkChecks network q route) (length route) i) where
+      pub route-link : (r : Refusal) → i < length route → firstOf (routeLinkChecks network q route i) ≡ Refused r
+          → firstOf (routeChecks network q route) ≡ Refused r
+      route-link r h e = past-32 ∙ front-refused _ _ r (passed-until _ _ i so r h e)
 
-    module _ (links : firstOf (each (routeLinkChecks network q route) (length route) 0) ≡ Accepted)
-        {node : ℕ} (stands : node ≡ nodeAt network (q .source) route (length route)) where
-      past-links : firstOf (routeChecks network q route) ≡ firstOf (check 36 0 (differ node (q .target)) ∷ [])
-      past-links = rw stands (past-32 ∙ front-passed (each (routeLinkChecks network q route) (length route) 0) _ links)
+      module _ (all : length route ≤ i) {node : ℕ} (stands : node ≡ nodeAt network (q .source) route i) where
+        past-links : firstOf (routeChecks network q route) ≡ firstOf (check 36 0 (differ node (q .target)) ∷ [])
+        past-links =
+            let same : i ≡ length route = omega (arith, so .within) in
+            rw (stands, same) (past-32 ∙ front-passed (each (routeLinkChecks network q route) (length route) 0) _ (passed-all _ _ i so all))
 
-      pub route-36 : node ≢ q .target → firstOf (routeChecks network q route) ≡ Refused (refuse 36 0)
-      unfolding firstOf
-      route-36 wrong = past-links ∙ simp (ne-eqb _ _ wrong)
+        pub route-36 : node ≢ q .target → firstOf (routeChecks network q route) ≡ Refused (refuse 36 0)
+        unfolding firstOf
+        route-36 wrong = past-links ∙ simp (ne-eqb _ _ wrong)
 
-      pub route-driven : node ≡ q .target → firstOf (routeChecks network q route) ≡ Accepted
-      unfolding firstOf
-      route-driven right = past-links ∙ simp (eq-eqb _ _ right)
+        pub route-driven : node ≡ q .target → firstOf (routeChecks network q route) ≡ Accepted
+        unfolding firstOf
+        route-driven right = past-links ∙ simp (eq-eqb _ _ right)
 
   -- A route that passes them is sound.
   pub route-sound : SoundNetwork network → SoundValue (nodeCount network) q → firstOf (routeChecks network q route) ≡ Accepted

@@ -15,6 +15,7 @@ abbrev pub meetingsOf : Priced → List ℕ → ℕ → List ℕ
 meetingsOf (Price p) meetings count = take count meetings
 meetingsOf (Refused r) meetings count = []
 
+-- how pricing a route ends, with what it gives (4.9)
 abbrev pub Prices : Verdict → List ℕ → Request → List ℕ → RoutePrice → Type 0
 Prices verdict network q route r =
     Pricing verdict network q route (pricedOutcome (r .answer)) (meetingsOf (r .answer) (r .meetings) (riderCountOf q))

@@ -3,7 +3,7 @@ use Prim.Native.Nat.{ℕ, _+_, _≤_, _<_}
 use mathlib.Core.Path.{_≡_}
 use mathlib.Core.Bool.{cond}
 use mathlib.Core.List.{List}
-use lib.ListN.{length, getD}
+use lib.ListN.{length}
 use lib.Dec.{ltb}
 use Rattle.rules.specs.Routes.{nodeAt, RiderHolds}
 use Rattle.rules.specs.declared.Request.{Request}
@@ -16,15 +16,12 @@ pub record Sofar (value : ℕ → ℕ) (count : ℕ) (spot : Spot) : Type 0 wher
   pub least : (other : ℕ) → other < count → spot .distance ≤ value other
   pub earliest : (other : ℕ) → other < spot .position → spot .distance < value other
 
--- The earliest position of the route at which the place of rider j's way to its node is least.
+-- Of the route's positions the earliest whose place, which holds rider j's way to its node, is least (2.7).
 pub record Nearest (network : List ℕ) (q : Request) (j : ℕ) (route : List ℕ) (spot : Spot) : Type 0 where
   pub place : ℕ → ℕ
   pub holds : (position : ℕ) → RiderHolds network q j (nodeAt network (q .source) route position) (place position)
   pub first : Sofar place (length route + 1) spot
 
--- what stands at the place of a position's node
-abbrev pub distanceAt : List ℕ → List ℕ → ℕ → List ℕ → ℕ → ℕ
-distanceAt network distances source route position = getD distances (nodeAt network source route position) 0
-
+-- the position that is given where it is nearer than the spot, else the spot
 abbrev pub closerOf : Spot → ℕ → ℕ → Spot
 closerOf spot position distance = cond (ltb distance (spot .distance)) (record { position = position; distance = distance }) spot

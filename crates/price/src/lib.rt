@@ -18,7 +18,8 @@ ghost use Rattle.rules.specs.Answers.{pricedOutcome, PricedRoute};
 // Prices a route of link numbers and writes each rider's meeting position into `meeting`, or refuses and leaves it
 // unchanged.
 pub fn price(network: &[u8], request: &[u8], route: &[u16], meeting: &mut [u16]) -> Priced
-    ensures { λ r. ⌜ PricedRoute (now (network .entry)) (now (request .entry)) (now (route .entry)) (now (meeting .entry)) (now (meeting .exit)) (pricedOutcome r) ⌝ }
+    ensures { λ r. ⌜ PricedRoute (now (network .entry)) (now (request .entry)) (now (route .entry)) (now (meeting .entry))
+        (now (meeting .exit)) (pricedOutcome r) ⌝ }
 {
     let read = read_request(network, request);
     let verdict = read.verdict;

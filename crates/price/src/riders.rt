@@ -10,13 +10,11 @@ use rules::Refusal;
 use rules::Request;
 use rules::Verdict;
 use walk::inner::walk_from;
-ghost use Prim.Native.Nat.{_+_, _<_, _≤_};
+ghost use Prim.Native.Nat.{_<_};
 ghost use mathlib.Core.Path.{_≡_};
-ghost use lib.ListN.{length};
-ghost use Rattle.rules.specs.Network.{nodeCount};
 ghost use Rattle.rules.specs.Request.{riderCountOf};
 ghost use Rattle.price.specs.Sound.{SoundRoute};
-ghost use Rattle.price.specs.Near.{Sofar, Nearest, distanceAt, closerOf};
+ghost use Rattle.price.specs.Near.{Nearest, closerOf};
 ghost use Rattle.price.specs.Meetings.{Prices};
 
 // A position of a route and a rider's walking distance to it.
@@ -71,14 +69,6 @@ pub fn nearest(network: &[u8], q: Request, j: usize, route: &[u16]) -> Spot
     let nodes = q.nodes;
     let mut distances = [0u32; MOST_NODES];
     walk_from(network, nodes[j], &mut distances);
-    nearest_by(network, &distances, q, route)
-}
-
-// The earliest position with the least of the distances that stand at its node's place.
-fn nearest_by(network: &[u8], distances: &[u32], q: Request, route: &[u16]) -> Spot
-    requires { ⌜ (nodeCount (now network) ≤ length (now distances)) × SoundRoute (now network) q (now route) ⌝ }
-    ensures { λ r. ⌜ Sofar (distanceAt (now (network .entry)) (now (distances .entry)) (q .source) (now (route .entry))) (length (now (route .entry)) + 1) r ⌝ }
-{
     let source = q.source;
     let mut spot = Spot {
         position: 0,

@@ -80,5 +80,6 @@ pub fn driving_cost(network: &[u8], q: Request, route: &[u16]) -> u64
         driving += drive(network, link_at(route, i));
         i += 1;
     }
-    q.bus_weight * driving
+    let weight = q.bus_weight;
+    weight * driving
 }

@@ -3,6 +3,7 @@ use Prim.Native.Nat.{ℕ, _+_, _%_, _≤_, _<_}
 use native.Mathlib.Omega.{arith}
 use mathlib.Core.Path.{_≡_, refl, _∙_, ap}
 use mathlib.Core.Logic.{_↔_, _≢_, _⊎_, inl, inr}
+use mathlib.Core.Bool.{not}
 use mathlib.Core.List.{List, [], _∷_}
 use lib.ListN.{length}
 use borrow.Author.Tests.{ne-eqb}
@@ -16,8 +17,8 @@ use Rattle.price.proofs.EntryLaws.{check-refused}
 
 module _ {network request bytes : List ℕ} {number : ℕ} (so : Tablet network request bytes number) where
   -- The answer is a price or a refusal.
-  either : ((price : ℕ) × (so .answer ≡ gives (price ∷ []))) ⊎ ((kind place : ℕ) × (so .answer ≡ refuses kind place))
-  either = elim (so .priced .pricing) [
+  price-or-refusal : ((price : ℕ) × (so .answer ≡ gives (price ∷ []))) ⊎ ((kind place : ℕ) × (so .answer ≡ refuses kind place))
+  price-or-refusal = elim (so .priced .pricing) [
     | refused r v e m ↦ inr (r .number, r .place, e)
     | stranded j v h s l e m ↦ inr (37, j, e)
     | priced price v p z e ↦ inl (price, e)
@@ -34,7 +35,7 @@ module _ {network request bytes : List ℕ} {number : ℕ} (so : Tablet network 
   -- A result below the first refusal is the price.
   pub tablet-value : (number < firstRefusal) ↔ (so .answer ≡ gives (number ∷ []))
   tablet-value = (
-    λ below. elim either [
+    λ below. elim price-or-refusal [
       | inl (price, told) ↦ rw (so .tells ∙ ap tabletNumber told) told
       | inr (kind, place, told) ↦ absurd (omega (arith, refused-above told))
     ],
@@ -44,7 +45,7 @@ module _ {network request bytes : List ℕ} {number : ℕ} (so : Tablet network 
   -- Any other result is the refusal's number, on top of the first.
   pub tablet-refused : (firstRefusal ≤ number) ↔ ((kind place : ℕ) × (so .answer ≡ refuses kind place) × (number ≡ firstRefusal + kind))
   tablet-refused = (
-    λ above. elim either [
+    λ above. elim price-or-refusal [
       | inl (price, told) ↦ absurd (omega (arith, priced-below told))
       | inr (kind, place, told) ↦ (kind, place, told, refused-above told)
     ],
@@ -58,6 +59,6 @@ module _ {network request bytes : List ℕ} {number : ℕ} (so : Tablet network 
       tablet-unique so
       (record {
         answer = refuses 38 0;
-        priced = record { meetings = []; pricing = check-refused network request refl (routeOf bytes) _ accepted (simp (ne-eqb _ _ odd)) };
+        priced = record { meetings = []; pricing = check-refused network request refl (routeOf bytes) _ accepted (ap not (ne-eqb _ _ odd)) };
         tells = refl;
       })

@@ -11,7 +11,7 @@ use rules::Refusal;
 use rules::Verdict;
 ghost use Rattle.rules.specs.Answers.{pricedOutcome, Tablet, TabletPriced};
 
-// Prices a route whose link numbers come as bytes, the high one first. From FIRST_REFUSAL on, the answer is a refusal's
+// Prices a route whose link numbers come as bytes, the high one first: gives the price, or FIRST_REFUSAL plus a refusal's
 // number.
 #[no_mangle]
 pub extern "C" fn tivelgor_tablet_price(network: &[u8], request: &[u8], route: &[u8]) -> u64
@@ -37,13 +37,13 @@ fn tablet_answer(network: &[u8], request: &[u8], route: &[u8]) -> Priced
     if let Verdict::Refused(r) = verdict {
         return Priced::Refused(r);
     }
+    let count = route.len() / 2;
     if route.len() % 2 != 0 {
         return Priced::Refused(Refusal {
             number: 38,
             place: 0,
         });
     }
-    let count = route.len() / 2;
     if LONGEST_ROUTE < count {
         return Priced::Refused(Refusal {
             number: 32,

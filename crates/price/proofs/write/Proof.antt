@@ -18,14 +18,8 @@ abbrev μ-loop : tie.MeasureT-loop
 loop-holds : tie.Need-loop-holds Inv-loop μ-loop
 loop-holds c = (omega arith, written-none)
 
-slice-write-meeting : tie.Need-slice-write-meeting Inv-loop μ-loop
-slice-write-meeting c = omega (arith, c .before .loop .inv .1 .kept .size)
-
 loop-again : tie.Need-loop-again Inv-loop μ-loop
 loop-again c = (omega arith, written-more (c .before .loop .inv .1) (omega arith) refl)
-
-same-length : tie.Need-same-length Inv-loop μ-loop
-same-length c = c .before .loop .inv .1 .kept .size
 
 returns : tie.Need-returns Inv-loop μ-loop
 returns c =
@@ -42,9 +36,9 @@ write-spec =
     (λ c. search needs)
     (λ c. search needs)
     (λ c. search needs)
-    slice-write-meeting
+    (λ c. omega (arith, c .before .loop .inv .1 .kept .size))
     (λ c. search needs)
     (λ c. search needs)
     loop-again
-    same-length
+    (λ c. c .before .loop .inv .1 .kept .size)
     returns)

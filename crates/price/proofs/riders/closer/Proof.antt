@@ -1,3 +1,4 @@
+-- The two outcomes of the test.
 use borrow.Author.Tests.{lt-ltb, le-ltb}
 use Rattle.price.proofs.riders.closer.Statement.{statement}
 use Rattle.price.proofs.riders.closer.Tie as tie

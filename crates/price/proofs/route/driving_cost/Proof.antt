@@ -9,47 +9,40 @@ use Rattle.rules.specs.Limits.{closed, longestRoute}
 use Rattle.rules.specs.Network.{drive}
 use Rattle.rules.specs.Routes.{sum}
 use Rattle.rules.proofs.RouteLaws.{way-known}
+use Rattle.price.specs.Sound.{SoundRoute}
 use Rattle.price.proofs.RouteLaws.{sum-more}
 use Rattle.price.proofs.route.driving_cost.Statement.{statement}
 use Rattle.price.proofs.route.driving_cost.Tie as tie
 
 abbrev Inv-loop : tie.InvT-loop
 Inv-loop network q route driving₀ i₀ driving i =
-    (i ≤ length route) × (driving ≡ sum i (λ e. drive network (getD route e 0))) × (driving ≤ closed * i)
+    SoundRoute network q route × (i ≤ length route) × (driving ≡ sum i (λ e. drive network (getD route e 0))) × (driving ≤ closed * i)
 
 abbrev μ-loop : tie.MeasureT-loop
 μ-loop network q route driving₀ i₀ driving i = length route - i
 
 loop-holds : tie.Need-loop-holds Inv-loop μ-loop
 unfolding sum
-loop-holds c = (omega arith, refl, omega arith)
+loop-holds c = (c .before .before .pre, omega arith, refl, omega arith)
 
 drive-requires : tie.Need-drive-requires Inv-loop μ-loop
-drive-requires c κs =
-    let entry = c .before .before .before .before .before in
-    omega (arith, entry .pre .sound .whole, way-known (entry .pre .drives) (c .before .before .loop .i) (c .before .loop-test .taken))
-
-add-driving : tie.Need-add-driving Inv-loop μ-loop
-add-driving c = let entry = c .before .before .before .before .before .before in omega (arith, entry .pre .few)
+drive-requires c κs = omega (arith, way-known (c .before .before .loop .inv .0 .drives) (c .before .before .loop .i) (c .before .loop-test .taken))
 
 loop-again : tie.Need-loop-again Inv-loop μ-loop
-loop-again c = (
-  omega arith,
-  rw sum-more (cc (c .before .before .before .loop .inv .1)),
-  omega arith,
-)
+loop-again c =
+    let inv = c .before .before .before .loop .inv in
+    (inv .0, omega arith, rw sum-more (cc (inv .2)), omega arith)
 
 mul-result : tie.Need-mul-result Inv-loop μ-loop
 mul-result c =
-    let entry = c .before .before .before .before .before in
-    let far : c .before .before .loop .driving ≤ closed * longestRoute = omega (arith, entry .pre .few) in
-    omega (arith, mul-le-mul (entry .pre .value .bus .1) far)
+    let far : c .before .loop .driving ≤ closed * longestRoute = omega arith in
+    omega (arith, mul-le-mul (c .before .loop .inv .0 .value .bus .1) far)
 
 returns : tie.Need-returns Inv-loop μ-loop
 returns c =
-    let entry = c .before .before .before .before .before in
-    let all : c .before .before .loop .i ≡ length (entry .args .route .now) = omega arith in
-    ap (λ (x : ℕ). entry .args .q .«bus_weight» * x) (rw all at (c .before .before .loop .inv .1))
+    let entry = c .before .before .before .before in
+    let all : c .before .loop .i ≡ length (entry .args .route .now) = omega arith in
+    ap (λ (x : ℕ). entry .args .q .«bus_weight» * x) (rw all at (c .before .loop .inv .2))
 
 pub driving-cost-spec : {M : Type 1} → statement M
 driving-cost-spec =
@@ -60,7 +53,7 @@ driving-cost-spec =
     loop-holds
     (λ c κs. search needs)
     drive-requires
-    add-driving
+    (λ c. search needs)
     (λ c. search needs)
     (λ c. search needs)
     loop-again

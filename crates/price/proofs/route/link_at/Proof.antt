@@ -1,3 +1,4 @@
+-- A link number of a route fits.
 use native.Mathlib.Omega.{arith}
 use native.Mathlib.Omega.{arith}
 use borrow.Author.Needs.{needs}

@@ -4,9 +4,8 @@ use native.Mathlib.Omega.{arith}
 use mathlib.Core.Path.{_≡_, refl, sym, _∙_}
 use lib.ListN.{length}
 use borrow.Author.Needs.{needs}
-use Rattle.rules.specs.Checks.{firstOf}
 use Rattle.rules.specs.Routes.{nodeAt, routeLinkChecks}
-use Rattle.rules.proofs.Order.{Passed, passed-none, passed-more, passed-until, passed-all}
+use Rattle.rules.proofs.Order.{Passed, passed-none, passed-more}
 use Rattle.price.proofs.RouteLaws.{node-next, driven-link, route-32, route-link, route-36, route-driven}
 use Rattle.price.proofs.route.route_verdict.Statement.{statement}
 use Rattle.price.proofs.route.route_verdict.Tie as tie
@@ -25,22 +24,14 @@ loop-holds : tie.Need-loop-holds Inv-loop μ-loop
 unfolding nodeAt
 loop-holds c = (passed-none _ _, refl)
 
--- The verdict on the link is that on place i.
-checked : (c : tie.After-link-verdict Inv-loop μ-loop) →
-    let loop = c .before .before .before in
-    let entry = loop .before .before .before .before in
-    c .link-verdict .result ≡ firstOf (routeLinkChecks (entry .args .network .now) (entry .args .q) (entry .args .route .now) (loop .loop .i))
-checked c = rw (← c .before .before .before .loop .inv .1, ← c .before .link-at .ensures) (c .link-verdict .ensures)
-
 returns-2 : tie.Need-returns-2 Inv-loop μ-loop
 returns-2 c =
     let loop = c .before .before .before .before .before in
     let told = c .enum-told2 .given .1 in
     told
     ∙ sym
-    (route-link _ _ _ (loop .before .if1 .left) _
-    (passed-until _ _ (loop .loop .i) (loop .loop .inv .0) _ (c .before .before .before .before .loop-test .taken)
-    (sym (checked (c .before .before)) ∙ told)))
+    (route-link _ _ _ (loop .before .if1 .left) (loop .loop .i) (loop .loop .inv .0) _ (c .before .before .before .before .loop-test .taken)
+    (rw (c .before .before .before .link-at .ensures, loop .loop .inv .1) at (sym (c .before .before .link-verdict .ensures) ∙ told)))
 
 to-requires : tie.Need-to-requires Inv-loop μ-loop
 to-requires c κs =
@@ -49,32 +40,28 @@ to-requires c κs =
 
 loop-again : tie.Need-loop-again Inv-loop μ-loop
 loop-again c =
-    let loop = c .before .before .before .before .before .before in
-    let more = c .before .before .before .before .before .loop-test .taken in (
-      passed-more _ _ (loop .loop .i) (loop .loop .inv .0) more (sym (checked (c .before .before .before)) ∙ c .before .enum-told .given .1),
-      rw (c .to .ensures .value, c .before .before .before .before .link-at .ensures) (sym (node-next _ _ _ (loop .loop .i) more)),
+    let loop = c .before .before .before .before .before .before .loop in
+    let more = c .before .before .before .before .before .loop-test .taken in
+    let link = c .before .before .before .before .link-at .ensures in (
+      passed-more _ _ (loop .i) (loop .inv .0) more
+          (rw (link, loop .inv .1) at (sym (c .before .before .before .link-verdict .ensures) ∙ c .before .enum-told .given .1)),
+      rw (c .to .ensures .value, link) (sym (node-next _ _ _ (loop .i) more)),
     )
-
--- All links have passed, and `node` is where they lead.
-passed : (c : tie.After-loop Inv-loop μ-loop) →
-    let entry = c .before .before .before .before .before in
-    c .before .loop .i ≡ length (entry .args .route .now)
-passed c = omega (arith, c .before .loop .inv .0 .within)
 
 returns-3 : tie.Need-returns-3 Inv-loop μ-loop
 returns-3 c =
     let loop = c .before .before .before .before in
     c .refused2 .ensures
     ∙ sym
-    (route-36 _ _ _ (loop .before .if1 .left) (passed-all _ _ _ (loop .loop .inv .0) (c .before .before .before .loop-test .left))
-    (rw (passed (c .before .before .before)) at (loop .loop .inv .1)) (c .before .if2 .taken))
+    (route-36 _ _ _ (loop .before .if1 .left) (loop .loop .i) (loop .loop .inv .0) (c .before .before .before .loop-test .left)
+    (loop .loop .inv .1) (c .before .if2 .taken))
 
 returns-4 : tie.Need-returns-4 Inv-loop μ-loop
 returns-4 c =
     let loop = c .before .before .before in
     sym
-    (route-driven _ _ _ (loop .before .if1 .left) (passed-all _ _ _ (loop .loop .inv .0) (c .before .before .loop-test .left))
-    (rw (passed (c .before .before)) at (loop .loop .inv .1)) (c .if2 .left))
+    (route-driven _ _ _ (loop .before .if1 .left) (loop .loop .i) (loop .loop .inv .0) (c .before .before .loop-test .left)
+    (loop .loop .inv .1) (c .if2 .left))
 
 pub route-verdict-spec : {M : Type 1} → statement M
 route-verdict-spec =
