@@ -27,18 +27,20 @@ lone {start = start} {u} here there = elim (ℕ-discrete u start) [
   | no e ↦ rw (there e) (least-none (λ d i. e (i .0)))
 ]
 
-module _ {network : List ℕ} {start home : ℕ} {before t : List ℕ} (sound : SoundNetwork network) (below : start < nodeCount network)
-    (clear : WrittenTo (λ v. noDistance) (nodeCount network) before t) (at-home : home ≡ 0) where
-  starts-least : (u : ℕ) → u < nodeCount network → Least noDistance (At start u) (getD (set t start home) u 0)
-  starts-least u h =
-      lone (λ e. rw e (getD-set-same t start home 0 (omega (arith, clear .within, clear .kept .size)) ∙ at-home))
+module _ {network : List ℕ} {start : ℕ} {before t : List ℕ} (sound : SoundNetwork network) (below : start < nodeCount network)
+    (clear : WrittenTo (λ v. noDistance) (nodeCount network) before t) where
+  starts-least : {home : ℕ} → home ≡ 0 → (u : ℕ) → u < nodeCount network → Least noDistance (At start u) (getD (set t start home) u 0)
+  starts-least {home} free u h =
+      lone (λ e. rw e (getD-set-same t start home 0 (omega (arith, clear .within, clear .kept .size)) ∙ free))
       (λ e. getD-set-other t start u home 0 e ∙ clear .holds u h)
 
-  -- What spreads from there are the walking distances.
-  pub walked : {after : List ℕ} → Spread noDistance (nodeCount network) (WalkBack network) (set t start home) after
+  -- What spreads from 0 at the start are the walking distances.
+  pub walked : {home : ℕ} {after : List ℕ}
+      → Spread noDistance (nodeCount network) (WalkBack network) (set t start home) after
+      → home ≡ 0
       → Row network start before after
-  walked spread =
+  walked {home} spread free =
       record {
-        holds = λ v h. distance sound h (compose (inside sound) starts-least v h (spread .least v h));
+        holds = λ v h. distance sound h (compose (inside sound) (starts-least free) v h (spread .least v h));
         kept = kept-then (kept-then (clear .kept) (kept-set t start home below)) (spread .kept);
       }

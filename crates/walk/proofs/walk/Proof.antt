@@ -14,14 +14,14 @@ returns-2 : tie.Need-returns-2
 returns-2 c =
     refused-41 (read-accepted _ (c .before .before .before .before .read-network .ensures)
     (c .before .before .enum-told .given .1)) (read-n _ (c .before .before .before .before .read-network .ensures)
-    (c .before .before .enum-told .given .1)) (c .refused .ensures) (c .before .if1 .taken)
+    (c .before .before .enum-told .given .1)) (c .refused .ensures) (omega arith)
 
 returns-3 : tie.Need-returns-3
 returns-3 c =
     let at-read-network = c .before .before .before .before .before in
     refused-42 (read-accepted _ (at-read-network .read-network .ensures) (c .before .before .before .enum-told .given .1))
     (read-n _ (at-read-network .read-network .ensures) (c .before .before .before .enum-told .given .1))
-    (c .before .before .if1 .left) (c .refused2 .ensures) (c .before .if2 .taken)
+    (omega arith) (c .refused2 .ensures) (omega arith)
 
 walk-from-requires : tie.Need-walk-from-requires
 walk-from-requires c κs =
@@ -41,8 +41,8 @@ returns-4 c =
     let at-enum-told = c .before .before .before .before .before .before in
     let at-read-network = c .before .before .before .before .before .before .before .before in
     filled (read-accepted _ (at-read-network .read-network .ensures) (at-enum-told .enum-told .given .1))
-    (read-n _ (at-read-network .read-network .ensures) (at-enum-told .enum-told .given .1)) (at-if1 .if1 .left)
-    (c .before .before .before .before .if2 .left) (c .before .before .walk-from .ensures)
+    (read-n _ (at-read-network .read-network .ensures) (at-enum-told .enum-told .given .1)) (omega (arith, at-if1 .if1 .left))
+    (omega (arith, c .before .before .before .before .if2 .left)) (c .before .before .walk-from .ensures)
 
 pub walk-spec : {M : Type 1} → statement M
 walk-spec =

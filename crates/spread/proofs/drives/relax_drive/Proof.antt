@@ -3,7 +3,7 @@ use native.Mathlib.Omega.{arith}
 use native.Mathlib.Nat.{mul-le-mul, le-of-lt}
 use Prim.Native.Nat.{_*_, _≤_}
 use borrow.Author.Needs.{needs}
-use Rattle.rules.specs.Limits.{closed, mostWeight, packedStep}
+use Rattle.rules.specs.Limits.{mostWeight, packedStep}
 use Rattle.rules.proofs.WalkLaws.{Joins, leads-joins}
 use Rattle.finish.specs.Packed.{DriveLink}
 use Rattle.spread.specs.Relaxing.{OneArc}
@@ -13,7 +13,7 @@ use Rattle.spread.proofs.drives.relax_drive.Statement.{statement}
 use Rattle.spread.proofs.drives.relax_drive.Tie as tie
 
 returns : tie.Need-returns
-returns c = (omega arith, link-closed (drive-closed (c .before .drive .ensures .value) (c .if1 .taken)))
+returns c = (omega arith, link-closed (drive-closed (c .before .drive .ensures .value) (omega arith)))
 
 -- What was read is the link's arc, and joins two nodes.
 arc : (c : tie.After-to) →
@@ -23,7 +23,7 @@ arc : (c : tie.After-to) →
 arc c =
     let at-before = c .before .before .before .before .before in
     let entry = at-before .before in
-    drive-arc (entry .pre .0) (c .before .from .ensures .value) (c .to .ensures .value) (c .before .before .if1 .left) (entry .args .weight)
+    drive-arc (entry .pre .0) (c .before .from .ensures .value) (c .to .ensures .value) (omega (arith, c .before .before .if1 .left)) (entry .args .weight)
     (c .before .before .before .drive .ensures .value)
 
 joins : (c : tie.After-to) →
@@ -33,14 +33,14 @@ joins c =
     let at-before = c .before .before .before .before .before in
     let entry = at-before .before in leads-joins (entry .pre .1 .lent .sound) (arc c .arc .leads)
 
--- A drive costs at most what the dearest link costs the heaviest bus.
+-- A drive cost of 16 bits, for the heaviest bus.
 light : (c : tie.After-to) →
     let entry = c .before .before .before .before .before .before in
-    entry .args .weight * c .before .before .before .drive .result ≤ mostWeight * closed
+    entry .args .weight * c .before .before .before .drive .result ≤ mostWeight * 65536
 light c =
     let at-before = c .before .before .before .before .before in
     let entry = at-before .before in
-    mul-le-mul (entry .pre .1 .light) (le-of-lt (c .before .before .if1 .left))
+    mul-le-mul (entry .pre .1 .light) (le-of-lt (c .before .before .before .drive .ensures .below))
 
 mul-packed-step : tie.Need-mul-packed-step
 mul-packed-step c = omega (arith, light c)

@@ -10,7 +10,7 @@ use Rattle.spread.proofs.walks.relax_walk.Statement.{statement}
 use Rattle.spread.proofs.walks.relax_walk.Tie as tie
 
 returns : tie.Need-returns
-returns c = (omega arith, link-closed (walk-closed (c .before .walk .ensures .value) (c .if1 .taken)))
+returns c = (omega arith, link-closed (walk-closed (c .before .walk .ensures .value) (omega arith)))
 
 -- What was read is the link's arc, gone backwards, and joins two nodes.
 arc : (c : tie.After-to) →
@@ -19,7 +19,7 @@ arc : (c : tie.After-to) →
 arc c =
     let at-before = c .before .before .before .before .before in
     let entry = at-before .before in
-    walk-arc (entry .pre .0) (c .before .from .ensures .value) (c .to .ensures .value) (c .before .before .if1 .left)
+    walk-arc (entry .pre .0) (c .before .from .ensures .value) (c .to .ensures .value) (omega (arith, c .before .before .if1 .left))
     (c .before .before .before .walk .ensures .value)
 
 joins : (c : tie.After-to) →

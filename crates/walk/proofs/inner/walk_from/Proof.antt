@@ -27,8 +27,8 @@ returns c =
     let entry = at-before-3 .before in
     let at-clear = at-before .before in
     let at-count = at-before-2 .before in
-    walked (entry .pre .1 .sound) (entry .pre .0) (rw (at-count .node-count .ensures .value) at (at-clear .clear .ensures)) refl
-    (c .before .before .spread-walks .ensures)
+    walked (entry .pre .1 .sound) (entry .pre .0) (rw (at-count .node-count .ensures .value) at (at-clear .clear .ensures))
+    (c .before .before .spread-walks .ensures) refl
 
 pub walk-from-spec : {M : Type 1} → statement M
 walk-from-spec =
