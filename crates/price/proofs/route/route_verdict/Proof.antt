@@ -26,12 +26,12 @@ loop-holds c = (passed-none _ _, refl)
 
 returns-2 : tie.Need-returns-2 Inv-loop μ-loop
 returns-2 c =
-    let loop = c .before .before .before .before .before in
+    let at-loop = c .before .before .before .before .before in
     let told = c .enum-told2 .given .1 in
     told
     ∙ sym
-    (route-link _ _ _ (loop .before .if1 .left) (loop .loop .i) (loop .loop .inv .0) _ (c .before .before .before .before .loop-test .taken)
-    (rw (c .before .before .before .link-at .ensures, loop .loop .inv .1) at (sym (c .before .before .link-verdict .ensures) ∙ told)))
+    (route-link _ _ _ (at-loop .before .if1 .left) (at-loop .loop .i) (at-loop .loop .inv .0) _ (c .before .before .before .before .loop-test .taken)
+    (rw (c .before .before .before .link-at .ensures, at-loop .loop .inv .1) at (sym (c .before .before .link-verdict .ensures) ∙ told)))
 
 to-requires : tie.Need-to-requires Inv-loop μ-loop
 to-requires c κs =
@@ -50,18 +50,18 @@ loop-again c =
 
 returns-3 : tie.Need-returns-3 Inv-loop μ-loop
 returns-3 c =
-    let loop = c .before .before .before .before in
+    let at-loop = c .before .before .before .before in
     c .refused2 .ensures
     ∙ sym
-    (route-36 _ _ _ (loop .before .if1 .left) (loop .loop .i) (loop .loop .inv .0) (c .before .before .before .loop-test .left)
-    (loop .loop .inv .1) (c .before .if2 .taken))
+    (route-36 _ _ _ (at-loop .before .if1 .left) (at-loop .loop .i) (at-loop .loop .inv .0) (c .before .before .before .loop-test .left)
+    (at-loop .loop .inv .1) (c .before .if2 .taken))
 
 returns-4 : tie.Need-returns-4 Inv-loop μ-loop
 returns-4 c =
-    let loop = c .before .before .before in
+    let at-loop = c .before .before .before in
     sym
-    (route-driven _ _ _ (loop .before .if1 .left) (loop .loop .i) (loop .loop .inv .0) (c .before .before .loop-test .left)
-    (loop .loop .inv .1) (c .if2 .left))
+    (route-driven _ _ _ (at-loop .before .if1 .left) (at-loop .loop .i) (at-loop .loop .inv .0) (c .before .before .loop-test .left)
+    (at-loop .loop .inv .1) (c .if2 .left))
 
 pub route-verdict-spec : {M : Type 1} → statement M
 route-verdict-spec =
