@@ -1,4 +1,4 @@
-// Tries the readers, walking, pricing and the tablet at document 01's numbers and at the edges of its limits, and stops at
+// Tries the readers, walking, pricing and the tablet at the rules' numbers and at the edges of their limits, and stops at
 // the first wrong answer.
 mod answers;
 mod build;

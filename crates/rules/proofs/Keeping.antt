@@ -1,4 +1,4 @@
--- Demand 1: "A refusal changes only the memory that document 01, or a later request, names for it."
+-- Demand 1: a refusal changes no memory but what is named for it (4.8).
 use Prim.Native.Nat.{ℕ}
 use mathlib.Core.Path.{_≡_}
 use mathlib.Core.Logic.{_≢_}

@@ -1,4 +1,4 @@
-// Tries the search on document 01's cases and on others, in rooms of each kind; then compares it with a listing of every
+// Tries the search on cases A to K and on others, in rooms of each kind; then compares it with a listing of every
 // drive, on small towns that a seeded generator makes. Stops at the first wrong answer.
 mod answers;
 mod cases;
@@ -42,7 +42,7 @@ fn cases_pass() -> bool {
     true
 }
 
-// Whether case i passes: document 01's come first, then our own, then records that are refused.
+// Whether case i passes: A to K come first, then our own, then records that are refused.
 fn case_passes(i: usize) -> bool {
     if i < town_cases::CASES {
         return town_cases::case_passes(i);

@@ -1,4 +1,4 @@
-// Document 01's cases of the small town.
+// The cases A to K of the small town (5.2).
 use crate::answers::NONE;
 use crate::cases;
 use crate::networks::TOWN;
