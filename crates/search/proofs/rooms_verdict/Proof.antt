@@ -10,7 +10,9 @@ mul-if1 : tie.Need-mul-if1
 mul-if1 c = omega (arith, distances-few _ _ (c .pre .1) (c .pre .2))
 
 returns : tie.Need-returns
-returns c = c .refused .ensures ∙ sym (room-21 _ _ _ _ _ (c .before .if1 .taken))
+returns c =
+    let a = c .before .before .args in
+    c .refused .ensures ∙ sym (room-21 (a .n) (a .l) (a .distances) (a .table) (a .steps) (omega (arith, c .before .if1 .taken)))
 
 mul-if2 : tie.Need-mul-if2
 mul-if2 c = rw (c .rider-bit .ensures) (omega (arith, table-few _ _ (c .before .before .pre .1) (c .before .before .pre .2)))

@@ -13,7 +13,7 @@ returns c = not-driven _ _ _ _ (λ e. c .if1 .taken (c .before .before .from .en
 returns-2 : tie.Need-returns-2
 returns-2 c =
     closed-drive _ _ _ _ (sym (c .before .before .before .from .ensures .value) ∙ c .before .if1 .left)
-    (rw (c .before .before .drive .ensures .value) at (c .if2 .taken))
+    (omega (arith, c .before .before .drive .ensures .value))
 
 mul-packed-step : tie.Need-mul-packed-step
 mul-packed-step c =
@@ -30,7 +30,7 @@ returns-3 c =
     let at-drive = c .before .before .before in
     let starts = sym (at-drive .before .from .ensures .value) ∙ c .before .before .if1 .left in
     c .packed-step .ensures
-    ∙ rw (at-drive .drive .ensures .value) (open-drive _ _ _ _ starts (rw (at-drive .drive .ensures .value) at (c .before .if2 .left)))
+    ∙ rw (at-drive .drive .ensures .value) (open-drive _ _ _ _ starts (omega (arith, at-drive .drive .ensures .value, c .before .if2 .left)))
 
 pub driving-step-spec : {M : Type 1} → statement M
 driving-step-spec =

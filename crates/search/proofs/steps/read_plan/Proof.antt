@@ -1,7 +1,6 @@
 -- Invariant: the first i steps are written, and whatever finishes first from where the bus stands, put behind them, finishes first from the
 -- source. Each turn the value there gets smaller, since a step weighs something.
 use Prim.Native.Nat.{_<_}
-use mathlib.Core.Path.{sym, _∙_}
 use lib.Pow.{pow-pos}
 use native.Mathlib.Omega.{arith}
 use Rattle.table.specs.Filling.{valueAt}
@@ -100,7 +99,7 @@ same-length c = c .before .before .loop .inv .kept .size
 returns : tie.Need-returns Inv-loop μ-loop
 returns c =
     let entry = c .before .before .before .before .before .before .before .before .before in
-    writing-done (entry .pre .0) (c .before .before .loop .inv) (sym (c .before .value .ensures) ∙ c .if1 .left)
+    writing-done (entry .pre .0) (c .before .before .loop .inv) (omega (arith, c .before .value .ensures, c .if1 .left))
 
 pub read-plan-spec : {M : Type 1} → statement M
 read-plan-spec =

@@ -1,7 +1,6 @@
 -- The lowest rider that is left is a rider of the request, so its bit can be taken out of both sets.
 use native.Mathlib.Omega.{arith}
 use lib.Count.{trailingZeros}
-use Rattle.finish.proofs.Sets.{without-less}
 use Rattle.table.proofs.MeetingLaws.{Candidate, candidate, value-there}
 use Rattle.table.proofs.meetings.first_meeting.Statement.{statement}
 use Rattle.table.proofs.meetings.first_meeting.Tie as tie
@@ -30,11 +29,8 @@ meeting-step-requires c κs =
 
 value-requires : tie.Need-value-requires
 value-requires c κs =
-    let entry = c .before .before .before .before .before in
-    let tries = entry .pre in
-    rw (c .before .rider-bit .ensures)
-    (value-there (tries .ready .sound) (tries .ready .request .riders) (tries .places)
-    (omega (arith, tries .row, without-less _ _ (who (c .before) .has))) (tries .node))
+    let tries = c .before .before .before .before .before .pre in
+    value-there (tries .ready .sound) (tries .ready .request .riders) (tries .places) (omega (arith, tries .row)) (tries .node)
 
 returns : tie.Need-returns
 returns c =
@@ -43,10 +39,10 @@ returns c =
     record {
       lowest = next .lowest;
       below = next .below;
-      leaves = rw bit;
-      still = rw bit;
+      leaves = cc (bit);
+      still = cc (bit);
       step = c .before .meeting-step .ensures;
-      rest = rw (← bit) (c .value .ensures);
+      rest = cc (bit, c .value .ensures);
     }
 
 pub first-meeting-spec : {M : Type 1} → statement M

@@ -14,7 +14,7 @@ shared-slice-read-distance c =
     omega (arith, place-within (entry .pre .0) (entry .pre .1), entry .pre .2 .places)
 
 returns : tie.Need-returns
-returns c = rw (← c .before .before .place .ensures .value) (cannot-meet _ _ (c .if1 .taken))
+returns c = cannot-meet _ _ (rw (c .before .before .place .ensures .value) at (c .if1 .taken))
 
 cast-packed-step : tie.Need-cast-packed-step
 cast-packed-step c = omega (arith, c .before .before .shared-slice-known3 .given (c .before .before .before .place .result))
