@@ -26,10 +26,10 @@ module _ {network : List ℕ} {start : ℕ} {before : List ℕ} where
         kept = kept-none;
       })
 
-  pub network-refused : {v : Verdict} (r : Refusal) → v ≡ networkVerdict network → v ≡ Refused r
+  pub reading-refused : {v : Verdict} (r : Refusal) → v ≡ networkVerdict network → v ≡ Refused r
       → Walked network start before before (verdictOutcome v)
   unfolding networkVerdict
-  network-refused r is told =
+  reading-refused r is told =
       refusal r (told ∙ sym (front-refused (networkChecks network) _ r (sym is ∙ told))) told
 
   module _ (sound : networkVerdict network ≡ Accepted) {n : ℕ} (reads-n : n ≡ nodeCount network) where

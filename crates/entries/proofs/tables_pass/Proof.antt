@@ -1,7 +1,7 @@
 -- Nothing is claimed of the loop but that it ends: the table rises to its bound.
 use Prim.Native.Nat.{_-_}
 use borrow.Author.Needs.{needs}
-use Rattle.entries.proofs.Four.{four}
+use Rattle.rules.proofs.Four.{four}
 use Rattle.entries.proofs.tables_pass.Statement.{statement}
 use Rattle.entries.proofs.tables_pass.Tie as tie
 

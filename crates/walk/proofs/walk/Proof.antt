@@ -2,13 +2,13 @@ use native.Mathlib.Omega.{arith}
 use native.Mathlib.Omega.{arith}
 use Rattle.rules.proofs.SoundNetworkLaws.{network-sound}
 use Rattle.records.proofs.NetworkLaws.{read-verdict, read-accepted, read-n}
-use Rattle.walk.proofs.EntryLaws.{network-refused, refused-41, refused-42, filled}
+use Rattle.walk.proofs.EntryLaws.{reading-refused, refused-41, refused-42, filled}
 use borrow.Author.Needs.{needs}
 use Rattle.walk.proofs.walk.Statement.{statement}
 use Rattle.walk.proofs.walk.Tie as tie
 
 returns : tie.Need-returns
-returns c = network-refused (c .enum-told2 .given .0 .0) (read-verdict _ (c .before .before .read-network .ensures)) (c .enum-told2 .given .1)
+returns c = reading-refused (c .enum-told2 .given .0 .0) (read-verdict _ (c .before .before .read-network .ensures)) (c .enum-told2 .given .1)
 
 returns-2 : tie.Need-returns-2
 returns-2 c =

@@ -1,7 +1,7 @@
 -- Nothing is claimed of the loop but that it ends: i rises to the number of places.
 use Prim.Native.Nat.{_-_}
 use borrow.Author.Needs.{needs}
-use Rattle.entries.proofs.Four.{four}
+use Rattle.rules.proofs.Four.{four}
 use Rattle.entries.proofs.answers.first_difference.Statement.{statement}
 use Rattle.entries.proofs.answers.first_difference.Tie as tie
 

@@ -1,7 +1,7 @@
 -- Nothing is claimed of the loop but that it ends: k rises to the number of links that there is room for.
 use Prim.Native.Nat.{_-_}
 use borrow.Author.Needs.{needs}
-use Rattle.entries.proofs.Four.{four}
+use Rattle.rules.proofs.Four.{four}
 use Rattle.entries.proofs.edge_records.put_links.Statement.{statement}
 use Rattle.entries.proofs.edge_records.put_links.Tie as tie
 

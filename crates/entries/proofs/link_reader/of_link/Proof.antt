@@ -1,7 +1,7 @@
 -- Nothing is claimed of the loop but that it ends: i rises to the number of a link's bytes.
 use Prim.Native.Nat.{_-_}
 use borrow.Author.Needs.{needs}
-use Rattle.entries.proofs.Four.{four}
+use Rattle.rules.proofs.Four.{four}
 use Rattle.entries.proofs.link_reader.of_link.Statement.{statement}
 use Rattle.entries.proofs.link_reader.of_link.Tie as tie
 

@@ -1,7 +1,7 @@
 -- Nothing is claimed of the loop but that it ends: j rises to the number of riders.
 use Prim.Native.Nat.{_-_}
 use borrow.Author.Needs.{needs}
-use Rattle.entries.proofs.Four.{four}
+use Rattle.rules.proofs.Four.{four}
 use Rattle.entries.proofs.request_reader.right_answer.Statement.{statement}
 use Rattle.entries.proofs.request_reader.right_answer.Tie as tie
 

@@ -2,7 +2,7 @@
 use lib.ListN.{length}
 use Prim.Native.Nat.{_-_}
 use borrow.Author.Needs.{needs}
-use Rattle.searches.proofs.Four.{four}
+use Rattle.rules.proofs.Four.{four}
 use Rattle.searches.proofs.answers.first_difference.Statement.{statement}
 use Rattle.searches.proofs.answers.first_difference.Tie as tie
 

@@ -1,7 +1,7 @@
 -- Nothing is claimed of the loop but that it ends: j rises to the number of riders.
 use Prim.Native.Nat.{_-_}
 use borrow.Author.Needs.{needs}
-use Rattle.searches.proofs.Four.{four}
+use Rattle.rules.proofs.Four.{four}
 use Rattle.searches.proofs.finishes.most_links.Statement.{statement}
 use Rattle.searches.proofs.finishes.most_links.Tie as tie
 

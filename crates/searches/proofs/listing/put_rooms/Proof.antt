@@ -1,7 +1,7 @@
 -- Nothing is claimed of the loop but that it ends: i rises to the number of places.
 use Prim.Native.Nat.{_-_}
 use borrow.Author.Needs.{needs}
-use Rattle.searches.proofs.Four.{four}
+use Rattle.rules.proofs.Four.{four}
 use Rattle.searches.proofs.listing.put_rooms.Statement.{statement}
 use Rattle.searches.proofs.listing.put_rooms.Tie as tie
 

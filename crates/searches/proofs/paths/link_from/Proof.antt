@@ -1,7 +1,7 @@
 -- Nothing is claimed of the loop but that it ends: k rises to the number of links.
 use Prim.Native.Nat.{_-_}
 use borrow.Author.Needs.{needs}
-use Rattle.searches.proofs.Four.{four}
+use Rattle.rules.proofs.Four.{four}
 use Rattle.searches.proofs.paths.link_from.Statement.{statement}
 use Rattle.searches.proofs.paths.link_from.Tie as tie
 

@@ -1,6 +1,6 @@
 -- Nothing is claimed of the loop but that it ends: i falls to 0.
 use borrow.Author.Needs.{needs}
-use Rattle.searches.proofs.Four.{four}
+use Rattle.rules.proofs.Four.{four}
 use Rattle.searches.proofs.paths.turned.Statement.{statement}
 use Rattle.searches.proofs.paths.turned.Tie as tie
 

@@ -1,7 +1,7 @@
 -- Nothing is claimed of the loop but that it ends: the kind of rooms rises to the number of kinds.
 use Prim.Native.Nat.{_-_}
 use borrow.Author.Needs.{needs}
-use Rattle.searches.proofs.Four.{four}
+use Rattle.rules.proofs.Four.{four}
 use Rattle.searches.proofs.rooms.passes.Statement.{statement}
 use Rattle.searches.proofs.rooms.passes.Tie as tie
 

@@ -1,7 +1,7 @@
 -- Nothing is claimed of the loop but that it ends: the number of listed walks rises to its bound.
 use Prim.Native.Nat.{_-_}
 use borrow.Author.Needs.{needs}
-use Rattle.searches.proofs.Four.{four}
+use Rattle.rules.proofs.Four.{four}
 use Rattle.searches.proofs.walks.list_walks.Statement.{statement}
 use Rattle.searches.proofs.walks.list_walks.Tie as tie
 
