@@ -113,7 +113,7 @@ pub fn of_request(network: &[u8], request: &[u8]) -> [usize; ANSWER] {
     let mut j = 0;
     while j < 7 {
         answer[6 + j] = value.nodes[j];
-        answer[13 + j] = value.bus_weights[j] as usize;
+        answer[13 + j] = value.weights[j] as usize;
         j += 1;
     }
     answer
