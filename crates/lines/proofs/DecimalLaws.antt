@@ -26,9 +26,11 @@ digits-more (suc places) x small =
     tenth : x / 10 < 10 ^ suc places
     tenth = omega (arith, small, pow-succ' 10 (suc places))
 
-pub decimal-small : (x : ℕ) → x < 10 → decimal x ≡ (48 + x) ∷ []
+pub decimal-small : (x : ℕ) → x < 10 → decimal x ≡ (48 + x % 10) ∷ []
 unfolding digits
-decimal-small x small = simp (lt-ltb x 10 small)
+decimal-small x small =
+    let low : x % 10 ≡ x = omega arith in
+    simp (lt-ltb x 10 small, low)
 
 pub decimal-tenth : (x : ℕ) → x < 2 ^ 64 → 10 ≤ x → decimal x ≡ decimal (x / 10) ++ (48 + x % 10) ∷ []
 unfolding digits

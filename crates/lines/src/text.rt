@@ -1,6 +1,5 @@
 // A text that grows at its front: its bytes stand at the end of their room.
 ghost use Prim.Native.Nat.{_+_, _*_, _<_};
-ghost use mathlib.Core.Path.{_≡_};
 ghost use mathlib.Core.List.{[], _∷_};
 ghost use lib.ListN.{length};
 ghost use Rattle.rules.specs.Program.{decimal, line};
@@ -54,10 +53,11 @@ fn decimal(line: Line, x: u64) -> Line
     requires { ⌜ Room (length (decimal x)) line ⌝ }
     ensures { λ r. ⌜ Added line (decimal x) r ⌝ }
 {
+    let text = put(line, 48 + (x % 10) as u8);
     if x < 10 {
-        return put(line, digit(x));
+        return text;
     }
-    decimal(put(line, digit(x % 10)), x / 10)
+    decimal(text, x / 10)
 }
 
 // A word, in front, from its last byte on.
@@ -72,14 +72,6 @@ fn spelt(line: Line, word: &[u8]) -> Line
         text = put(text, word[i]);
     }
     text
-}
-
-// The byte of a digit.
-fn digit(x: u64) -> u8
-    requires { ⌜ x < 10 ⌝ }
-    ensures { λ r. ⌜ r ≡ 48 + x ⌝ }
-{
-    48 + x as u8
 }
 
 // One byte, in front.

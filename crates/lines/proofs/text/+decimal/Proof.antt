@@ -10,7 +10,6 @@ use Rattle.lines.proofs.TextLaws.{added-both, room-behind}
 use Rattle.lines.proofs.text.decimal.Reads as decimal
 use Rattle.lines.proofs.text.decimal.Kinds as decimal-kinds
 use Rattle.lines.proofs.text.+decimal.Lts-decimal as decimal-lts
-use Rattle.lines.proofs.text.digit.Reads as digit-reads
 use Rattle.lines.proofs.text.put.Reads as put-reads
 use Rattle.lines.proofs.text.+decimal.{statement}
 use Rattle.lines.proofs.text.+decimal.Tie.{close}
@@ -20,8 +19,6 @@ abbrev μ-decimal : Measures 0 decimal-kinds.ps ℕ
 
 pub +decimal-spec : {M : Type 1} → statement M
 +decimal-spec = close μ-decimal λ t. decimal-lts.spec (
-  digit-reads.Asked,
-  digit-reads.Learnt,
   put-reads.Asked,
   put-reads.Learnt,
   and 0 decimal-kinds.ps (falls 0 decimal-kinds.ps _<_ μ-decimal t) decimal.Pre,
@@ -29,16 +26,14 @@ pub +decimal-spec : {M : Type 1} → statement M
 )
     (and 0 decimal-kinds.ps (is 0 decimal-kinds.ps μ-decimal t) decimal.Pre)
     decimal.Post
-    (λ c κs. search needs)
-    (λ c κs. let some = decimal-length (c .before .before .args .x) .0 in search needs)
-    (λ c. rw (decimal-small (c .before .before .before .args .x) (search needs), ← c .before .digit .ensures) (c .put .ensures))
-    (λ c κs. search needs)
-    (λ c κs. let some = decimal-length (c .before .before .args .x) .0 in search needs)
+    (λ c. search needs)
+    (λ c. search needs)
+    (λ c κs. let some = decimal-length (c .args .x) .0 in search needs)
+    (λ c. rw (decimal-small (c .before .before .args .x) (search needs)) (c .before .put .ensures))
     (λ c κs.
-    let start = c .before .before .before in
+    let start = c .before .before in
     let tenth = decimal-tenth (start .args .x) (omega arith) (search needs) in
-    (omega arith, room-behind (start .pre .1) _ (c .put2 .ensures) (omega (arith, simp length-append at (ap length tenth)))))
+    (omega arith, room-behind (start .pre .1) _ (c .before .put .ensures) (omega (arith, simp length-append at (ap length tenth)))))
     (λ c.
-    let start = c .before .before .before .before in
-    rw (decimal-tenth (start .args .x) (omega arith) (search needs), ← c .before .before .digit2 .ensures)
-    (added-both (c .before .put2 .ensures) (c .decimal .ensures)))
+    let start = c .before .before .before in
+    rw (decimal-tenth (start .args .x) (omega arith) (search needs)) (added-both (c .before .before .put .ensures) (c .decimal .ensures)))
