@@ -18,7 +18,7 @@ use Rattle.rules.specs.declared.Verdict.the-variants.{Accepted, Refused as NotA
 use Rattle.rules.proofs.Clash.{clash}
 use Rattle.rules.proofs.Order.{given, passed, front-refused, front-passed}
 use Rattle.rules.proofs.SoundRequestLaws.{records-sound, value-sound}
-use Rattle.records.proofs.RequestLaws.{request-verdict, request-accepted, request-value}
+use Rattle.records.proofs.RequestLaws.{request-verdict, request-accepted, read-value}
 
 -- How pricing ends behind the records' checks and the check c.
 abbrev pub PricedBehind : List ℕ → List ℕ → List ℕ → Check → Outcome → List ℕ → Type 0

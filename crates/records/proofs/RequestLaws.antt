@@ -34,9 +34,9 @@ module _ (network s : List ℕ) {r : RequestRead} (is : r ≡ requestOf network 
     pub request-accepted : requestVerdict network s ≡ Accepted
     request-accepted = sym request-verdict ∙ accepted
 
-    pub request-value : r .request ≡ requestValue s
+    pub read-value : r .request ≡ requestValue s
     unfolding requestOf
-    request-value = rw (is, request-accepted)
+    read-value = rw (is, request-accepted)
 
 -- no request that is handed back has more riders than places
 pub few-riders : (network s : List ℕ) → riderCountOf (requestOf network s .request) ≤ mostRiders

@@ -6,7 +6,7 @@ use borrow.Author.Needs.{needs}
 use borrow.Author.Tests.{lt-ltb, le-ltb}
 use Rattle.rules.specs.Request.{riderCountOf}
 use Rattle.rules.proofs.WritingLaws.{written-all}
-use Rattle.records.proofs.RequestLaws.{request-value}
+use Rattle.records.proofs.RequestLaws.{read-value}
 use Rattle.price.proofs.EntryLaws.{unwritten, read-sound, read-refused, check-refused, check-passed, priced-told}
 use Rattle.price.proofs.price.Statement.{statement}
 use Rattle.price.proofs.price.Tie as tie
@@ -18,7 +18,7 @@ returns-2 : tie.Need-returns-2
 returns-2 c =
     let read = c .before .before .before .before .read-request .ensures in
     let accepted = c .before .before .enum-told .given .1 in
-    unwritten (check-refused _ _ read _ _ accepted (rw (← request-value _ _ read accepted) (lt-ltb _ _ (c .if1 .taken))))
+    unwritten (check-refused _ _ read _ _ accepted (rw (← read-value _ _ read accepted) (lt-ltb _ _ (c .if1 .taken))))
 
 price-route-requires : tie.Need-price-route-requires
 price-route-requires c κs = read-sound _ _ (c .before .before .before .before .read-request .ensures) (c .before .before .enum-told .given .1)
@@ -29,7 +29,7 @@ returns-3 c =
     let at-if = c .before .before .before in
     let accepted = at-if .before .before .enum-told .given .1 in
     let read = at-if .before .before .before .before .read-request .ensures in
-    rw told (unwritten (check-passed _ _ read _ _ accepted (rw (← request-value _ _ read accepted) (le-ltb _ _ (at-if .if1 .left)))
+    rw told (unwritten (check-passed _ _ read _ _ accepted (rw (← read-value _ _ read accepted) (le-ltb _ _ (at-if .if1 .left)))
     (rw told at (c .before .before .price-route .ensures))))
 
 write-requires : tie.Need-write-requires
@@ -51,7 +51,7 @@ returns-4 c =
     rw told
     (record {
       meetings = take count positions;
-      pricing = check-passed _ _ read _ _ accepted (rw (← request-value _ _ read accepted) (le-ltb _ _ (at-priced .before .if1 .left))) pricing;
+      pricing = check-passed _ _ read _ _ accepted (rw (← read-value _ _ read accepted) (le-ltb _ _ (at-priced .before .if1 .left))) pricing;
       written = written-all (take count positions) (c .before .before .write .ensures) (priced-told pricing .2)
           (λ j h. sym (getD-take count positions j 0 h));
     })

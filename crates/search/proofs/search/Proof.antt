@@ -3,7 +3,7 @@ use native.Mathlib.Omega.{arith}
 use mathlib.Core.Path.{_∙_, sym}
 use Rattle.rules.proofs.SoundRequestLaws.{records-sound, value-sound}
 use Rattle.rules.proofs.RoomLaws.{rooms-accepted}
-use Rattle.records.proofs.RequestLaws.{request-verdict, request-accepted, request-value}
+use Rattle.records.proofs.RequestLaws.{request-verdict, request-accepted, read-value}
 use Rattle.search.proofs.EntryLaws.{records-refused, rooms-refused, searched}
 use borrow.Author.Needs.{needs}
 use Rattle.search.proofs.search.Statement.{statement}
@@ -27,7 +27,7 @@ rooms-verdict-requires c κs =
     (c .before .before .enum-told .given .1)) in
     rw (
       c .node-count .ensures .value,
-      (request-value _ _ (c .before .before .before .before .read-request .ensures)
+      (read-value _ _ (c .before .before .before .before .read-request .ensures)
           (c .before .before .enum-told .given .1)),
     ) (network .someNode, network .nodes, value-sound _ _ request .riders)
 
@@ -38,7 +38,7 @@ returns-2 c =
     rooms-refused _ _ _ (request-accepted _ _ (at-read-request .read-request .ensures) (at-enum-told .enum-told .given .1))
     (rw (
       c .before .before .before .before .node-count .ensures .value,
-      (request-value _ _ (at-read-request .read-request .ensures) (at-enum-told .enum-told .given .1)),
+      (read-value _ _ (at-read-request .read-request .ensures) (at-enum-told .enum-told .given .1)),
     ) at
     (c .before .before .before .rooms-verdict .ensures)) _ (c .before .rooms .given .1)
 
@@ -49,14 +49,14 @@ plan-requires c κs =
     let at-enum-told = c .before .before .before .before .before .before .before .before in
     let at-read-request = c .before .before .before .before .before .before .before .before .before .before in
     let (network, request) = records-sound _ _ (request-accepted _ _ (at-read-request .read-request .ensures) (at-enum-told .enum-told .given .1)) in
-    rw (request-value _ _ (at-read-request .read-request .ensures) (at-enum-told .enum-told .given .1))
+    rw (read-value _ _ (at-read-request .read-request .ensures) (at-enum-told .enum-told .given .1))
     (record {
       sound = network;
       request = value-sound _ _ request;
       enough = rooms-accepted _ _ _
           (rw (
             at-node-count .node-count .ensures .value,
-            (request-value _ _ (at-read-request .read-request .ensures) (at-enum-told .enum-told .given .1)),
+            (read-value _ _ (at-read-request .read-request .ensures) (at-enum-told .enum-told .given .1)),
           ) at
           (sym (at-rooms-verdict .rooms-verdict .ensures) ∙ c .before .before .before .enum-told2 .given .1));
     })
@@ -73,10 +73,10 @@ returns-3 c =
     searched _ _ _ (request-accepted _ _ (at-read-request .read-request .ensures) (at-enum-told-2 .enum-told .given .1))
     (rw (
       at-node-count .node-count .ensures .value,
-      (request-value _ _ (at-read-request .read-request .ensures) (at-enum-told-2 .enum-told .given .1)),
+      (read-value _ _ (at-read-request .read-request .ensures) (at-enum-told-2 .enum-told .given .1)),
     ) at
     (at-rooms-verdict .rooms-verdict .ensures)) (at-enum-told .enum-told2 .given .1)
-    (rw (request-value _ _ (at-read-request .read-request .ensures) (at-enum-told-2 .enum-told .given .1)) at (at-plan .plan .ensures))
+    (rw (read-value _ _ (at-read-request .read-request .ensures) (at-enum-told-2 .enum-told .given .1)) at (at-plan .plan .ensures))
 
 pub search-spec : {M : Type 1} → statement M
 search-spec =
