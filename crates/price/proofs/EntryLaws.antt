@@ -35,7 +35,7 @@ module _ (network request : List ℕ) {read : RequestRead} (is : read ≡ reques
   pub read-sound : read .verdict ≡ Accepted → SoundNetwork network × SoundValue (nodeCount network) (read .request)
   read-sound accepted =
       let (sound, request-sound) = records-sound network request (request-accepted network request is accepted) in
-      (sound, rw (request-value network request is accepted) (value-sound _ request request-sound))
+      (sound, rw (read-value network request is accepted) (value-sound _ request request-sound))
 
   module _ (route : List ℕ) (c : Check) where
     pub read-refused : (r : Refusal) → read .verdict ≡ NotAccepted r → PricedBehind network request route c (refuses (r .number) (r .place)) []
@@ -55,7 +55,7 @@ module _ (network request : List ℕ) {read : RequestRead} (is : read ≡ reques
       pub check-passed : {answer : Outcome} {meetings : List ℕ} → c .applies ≡ false
           → Pricing (firstOf (routeChecks network (read .request) route)) network (read .request) route answer meetings
           → PricedBehind network request route c answer meetings
-      check-passed e pricing = rw (past-records ∙ passed _ _ _ e) (rw (request-value network request is accepted) at pricing)
+      check-passed e pricing = rw (past-records ∙ passed _ _ _ e) (rw (read-value network request is accepted) at pricing)
 
 -- A price comes once everything else is accepted, with a meeting position for each rider.
 pub priced-told : {v : Verdict} {network : List ℕ} {q : Request} {route : List ℕ} {price : ℕ} {meetings : List ℕ}

@@ -6,10 +6,10 @@ use Rattle.plan.proofs.main.Statement.{statement}
 use Rattle.plan.proofs.main.Tie as tie
 
 array-share-prefix-text : tie.Need-array-share-prefix-text
-array-share-prefix-text c = printed-within (c .before .print .ensures)
+array-share-prefix-text c = printed-within (c .before .write-text .ensures)
 
 slice-aggregate-write-all : tie.Need-slice-aggregate-write-all
-slice-aggregate-write-all c = sym (length-take-le _ _ (printed-within (c .before .before .print .ensures)))
+slice-aggregate-write-all c = sym (length-take-le _ _ (printed-within (c .before .before .write-text .ensures)))
 
 pub main-spec : {M : Type 1} → statement M
 main-spec =

@@ -23,8 +23,8 @@ arc : (c : tie.After-to) →
 arc c =
     let at-before = c .before .before .before .before .before in
     let entry = at-before .before in
-    drive-arc (entry .pre .0) (c .before .from .ensures .value) (c .to .ensures .value) (omega (arith, c .before .before .if1 .left)) (entry .args .weight)
-    (c .before .before .before .drive .ensures .value)
+    drive-arc (entry .pre .0) (c .before .from .ensures .value) (c .to .ensures .value) (omega (arith, c .before .before .if1 .left))
+    (entry .args .weight) (c .before .before .before .drive .ensures .value)
 
 joins : (c : tie.After-to) →
     let entry = c .before .before .before .before .before .before in
