@@ -49,7 +49,7 @@ pub fn first(route: &[u16], count: usize) -> &[u16] {
     &route[0..count]
 }
 
-// The route as bytes, two for each link, high byte first.
+// The bytes of a route: a link's number takes two, of which the high one comes first.
 pub fn bytes(route: &[u16; 4097]) -> [u8; BYTES] {
     let mut bytes = [0u8; BYTES];
     let mut i = 0;

@@ -102,9 +102,9 @@ module _ {network : List ℕ} {q : Request} where
           short = r .short;
         }
 
-    -- Every finish from a node has one of no larger cost, no more steps and at most |R| + (|R| + 1) * (n - 1) steps. By
-    -- induction on the finish, cut where it first meets a rider: what follows that meeting has one of few steps for one rider
-    -- less, and the drives before it are a trip to there, which has one of fewer than n arcs.
+    -- For every finish from a node there is a short one, of |R| + (|R| + 1) * (n - 1) steps or fewer, that neither costs more nor
+    -- takes more steps. By induction, cutting the finish at its first meeting: behind it one rider less is to be met, so that part has
+    -- a short one; the drives up to it are a trip, and a trip has one of fewer than n arcs.
     pub shorter : {R v cost : ℕ} {steps : List ℕ} → v < nodeCount network → Finish network q R v steps cost
         → ShortFinish network q R v cost (length steps)
     shorter h f = short h (stretch h f)

@@ -4,7 +4,7 @@ use mathlib.Core.Path.{_≡_}
 use mathlib.Core.List.{List}
 use lib.ListN.{getD}
 
--- `Arc u v w`: from u one can go on to v for w.
+-- `Arc u v w`: an arc of weight w from u to v.
 abbrev pub Arcs : Type 1
 Arcs = ℕ → ℕ → ℕ → Type 0
 

@@ -1,1 +1,1 @@
-// Least sums over arcs, which walking distances and every row of the work table share: definitions in specs/, laws in proofs/.
+// Least sums over arcs. A walking distance is one, and so is each value of the work table: definitions in specs/, laws in proofs/.

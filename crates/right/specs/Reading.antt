@@ -57,8 +57,8 @@ pub record First (network : List ℕ) (q : Request) (R v t : ℕ) (steps : List 
 abbrev pub planValue : Request → (ℕ → ℕ → ℕ) → ℕ
 planValue q T = T (allRiders q) (q .source)
 
--- How it stands when some steps are written, R is still to be met and the bus is at v: whatever finishes first from here, put behind
--- the steps written so far, finishes first from the source; and the value here tells how many steps are to come.
+-- How it stands when some steps are written, R is still to be met and the bus is at v: the steps, with any first
+-- finish from v behind them, are a first finish from the source; and the value here tells how many steps are to come.
 pub record Reading (network : List ℕ) (q : Request) (T : ℕ → ℕ → ℕ) (written : List ℕ) (R v : ℕ) : Type 0 where
   pub set : R < 2 ^ riderCountOf q
   pub node : v < nodeCount network

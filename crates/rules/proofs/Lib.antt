@@ -1,5 +1,5 @@
--- Laws of the definitions: how checks run in their order, what acceptance gives, how large refusals are, that any two results that
--- satisfy a promise agree, and that a refusal keeps the rooms.
+-- Laws of the definitions: how checks run in their order, what acceptance gives, how large refusals are, that a promise has one
+-- result at most, and that a refusal keeps the rooms.
 pub mod Clash
 pub mod Four
 pub mod Order

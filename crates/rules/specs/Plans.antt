@@ -47,7 +47,7 @@ pub data Finish (network : List ℕ) (q : Request) : ℕ → ℕ → List ℕ �
       → c ≡ busWeightOf q * w + rest
       → Finish network q R v (step ∷ steps) c
 
--- A plan is a finish from the source for all riders.
+-- A finish that starts at the source and meets everybody is a plan.
 abbrev pub Plan : List ℕ → Request → List ℕ → ℕ → Type 0
 Plan network q steps cost = Finish network q (allRiders q) (q .source) steps cost
 

@@ -57,7 +57,7 @@ pub fn refused(number: u16, place: usize) -> Verdict
     Verdict::Refused(Refusal { number, place })
 }
 
-// A network once read: n and m, both 0 beside a refusal.
+// What reading a network gives: its sizes, or 0 for each where the verdict is a refusal.
 pub struct NetworkRead {
     pub verdict: Verdict,
     pub n: usize,
@@ -74,7 +74,7 @@ pub struct Request {
     pub weights: [u64; MOST_RIDERS],
 }
 
-// A request once read: the value, with every field zero beside a refusal.
+// What reading a request gives: its value, or zeros throughout where the verdict is a refusal.
 pub struct RequestRead {
     pub verdict: Verdict,
     pub request: Request,

@@ -1,4 +1,4 @@
-// The public walking entry.
+// Walking distances from any node.
 pub mod inner;
 
 use records::read_network;

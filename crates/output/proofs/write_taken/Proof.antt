@@ -17,7 +17,7 @@ part-write-plan-start-2 c = omega (arith, network-size-within (c .before .before
 returns : tie.Need-returns
 returns c =
     let at-network-size = c .before .before .before .before .before .before in
-    let entry = c .before .before .before .before .before .before .before .before .before in
+    let entry = at-network-size .before .before .before in
     parted (entry .args .taken .now) (at-network-size .network-size .result) (at-network-size .network-size .ensures)
     (c .before .before .write-plan .ensures)
 

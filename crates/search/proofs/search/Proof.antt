@@ -34,7 +34,7 @@ rooms-verdict-requires c κs =
 returns-2 : tie.Need-returns-2
 returns-2 c =
     let at-enum-told = c .before .before .before .before .before .before in
-    let at-read-request = c .before .before .before .before .before .before .before .before in
+    let at-read-request = at-enum-told .before .before in
     rooms-refused _ _ _ (request-accepted _ _ (at-read-request .read-request .ensures) (at-enum-told .enum-told .given .1))
     (rw (
       c .before .before .before .before .node-count .ensures .value,
@@ -45,9 +45,9 @@ returns-2 c =
 plan-requires : tie.Need-plan-requires
 plan-requires c κs =
     let at-rooms-verdict = c .before .before .before .before .before in
-    let at-node-count = c .before .before .before .before .before .before in
-    let at-enum-told = c .before .before .before .before .before .before .before .before in
-    let at-read-request = c .before .before .before .before .before .before .before .before .before .before in
+    let at-node-count = at-rooms-verdict .before in
+    let at-enum-told = at-node-count .before .before in
+    let at-read-request = at-enum-told .before .before in
     let (network, request) = records-sound _ _ (request-accepted _ _ (at-read-request .read-request .ensures) (at-enum-told .enum-told .given .1)) in
     rw (read-value _ _ (at-read-request .read-request .ensures) (at-enum-told .enum-told .given .1))
     (record {
@@ -64,12 +64,11 @@ plan-requires c κs =
 returns-3 : tie.Need-returns-3
 returns-3 c =
     let at-plan = c .before .before .before .before .before .before in
-    let at-enum-told = c .before .before .before .before .before .before .before .before .before .before in
-    let at-rooms-verdict = c .before .before .before .before .before .before .before .before .before .before .before .before in
-    let at-node-count = c .before .before .before .before .before .before .before .before .before .before .before .before .before in
-    let at-enum-told-2 = c .before .before .before .before .before .before .before .before .before .before .before .before .before .before .before in
-    let at-read-request =
-    c .before .before .before .before .before .before .before .before .before .before .before .before .before .before .before .before .before in
+    let at-enum-told = at-plan .before .before .before .before in
+    let at-rooms-verdict = at-enum-told .before .before in
+    let at-node-count = at-rooms-verdict .before in
+    let at-enum-told-2 = at-node-count .before .before in
+    let at-read-request = at-enum-told-2 .before .before in
     searched _ _ _ (request-accepted _ _ (at-read-request .read-request .ensures) (at-enum-told-2 .enum-told .given .1))
     (rw (
       at-node-count .node-count .ensures .value,

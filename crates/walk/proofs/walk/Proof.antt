@@ -38,8 +38,8 @@ walk-from-requires c κs =
 returns-4 : tie.Need-returns-4
 returns-4 c =
     let at-if1 = c .before .before .before .before .before in
-    let at-enum-told = c .before .before .before .before .before .before in
-    let at-read-network = c .before .before .before .before .before .before .before .before in
+    let at-enum-told = at-if1 .before in
+    let at-read-network = at-enum-told .before .before in
     filled (read-accepted _ (at-read-network .read-network .ensures) (at-enum-told .enum-told .given .1))
     (read-n _ (at-read-network .read-network .ensures) (at-enum-told .enum-told .given .1)) (omega (arith, at-if1 .if1 .left))
     (omega (arith, c .before .before .before .before .if2 .left)) (c .before .before .walk-from .ensures)

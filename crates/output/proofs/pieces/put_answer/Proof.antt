@@ -10,9 +10,8 @@ use Rattle.output.proofs.pieces.put_answer.Tie as tie
 returns-2 : tie.Need-returns-2
 returns-2 c =
     let at-answer = c .before .before .before .before .before .before .before in
-    let at-answer-2 = c .before .before .before .before .before .before .before .before .before .before in
-    let entry =
-    c .before .before .before .before .before .before .before .before .before .before .before .before .before .before .before .before .before in
+    let at-answer-2 = at-answer .before .before .before in
+    let entry = at-answer-2 .before .before .before .before .before .before .before in
     put-refused (entry .args .network .now) (entry .args .distances .now) (entry .args .steps .now)
     (source (entry .args .request .now)) (plannedOutcome (entry .args .answer))
     (ap plannedOutcome (at-answer-2 .answer2 .given .1 ∙ at-answer .answer3 .given .1))
@@ -21,21 +20,21 @@ returns-2 c =
 request-source-requires : tie.Need-request-source-requires
 request-source-requires c κs =
     let at-answer = c .before .before .before .before .before .before in
-    let entry = c .before .before .before .before .before .before .before .before .before .before .before .before .before in
+    let entry = at-answer .before .before .before .before .before .before .before in
     omega (arith, entry .pre .0 .found _ _ (ap plannedOutcome (at-answer .answer .given .1)) .long)
 
 part-put-steps-end : tie.Need-part-put-steps-end
 part-put-steps-end c =
     let at-answer = c .before .before .before .before .before .before .before in
-    let entry = c .before .before .before .before .before .before .before .before .before .before .before .before .before .before in
+    let entry = at-answer .before .before .before .before .before .before .before in
     omega (arith, entry .pre .0 .found _ _ (ap plannedOutcome (at-answer .answer .given .1)) .within)
 
 put-steps-requires : tie.Need-put-steps-requires
 put-steps-requires c κs =
     let at-put-line = c .before .before .before .before .before in
-    let at-ok-line = c .before .before .before .before .before .before .before in
-    let at-answer = c .before .before .before .before .before .before .before .before .before in
-    let entry = c .before .before .before .before .before .before .before .before .before .before .before .before .before .before .before .before in
+    let at-ok-line = at-put-line .before .before in
+    let at-answer = at-ok-line .before .before in
+    let entry = at-answer .before .before .before .before .before .before .before in
     let found = entry .pre .0 .found _ _ (ap plannedOutcome (at-answer .answer .given .1)) in (
       rides-from (entry .args .steps .now) (at-answer .answer .given .0 .1 .0) (c .before .before .request-source .ensures .value)
           (found .rides),
@@ -47,12 +46,10 @@ put-steps-requires c κs =
 returns-3 : tie.Need-returns-3
 returns-3 c =
     let at-request-source = c .before .before .before .before .before in
-    let at-put-line = c .before .before .before .before .before .before .before .before in
-    let at-ok-line = c .before .before .before .before .before .before .before .before .before .before in
-    let at-answer = c .before .before .before .before .before .before .before .before .before .before .before .before in
-    let entry =
-    c .before .before .before .before .before .before .before .before .before .before .before .before .before .before .before
-    .before .before .before .before in
+    let at-put-line = at-request-source .before .before .before in
+    let at-ok-line = at-put-line .before .before in
+    let at-answer = at-ok-line .before .before in
+    let entry = at-answer .before .before .before .before .before .before .before in
     put-planned (entry .args .network .now) (entry .args .distances .now) (entry .args .steps .now)
     (source (entry .args .request .now)) (plannedOutcome (entry .args .answer))
     (ap plannedOutcome (at-answer .answer .given .1)) (at-ok-line .ok-line .ensures) (at-put-line .put-line2 .ensures)

@@ -50,7 +50,7 @@ node-after-requires c κs =
 loop-again : tie.Need-loop-again Inv-loop μ-loop
 loop-again c =
     let at-step-line = c .before .before .before .before .before in
-    let at-loop = c .before .before .before .before .before .before .before .before in
+    let at-loop = at-step-line .before .before .before in
     stepping-more (at-loop .loop .inv) (search needs) (at-step-line .step-line .ensures)
     (c .before .before .before .put-line .ensures) (c .node-after .ensures)
 

@@ -43,9 +43,9 @@ value-requires c κs =
     value-ready (at .known) (at .set) (at .node)
 
 some : (c : tie.Then1 Inv-loop μ-loop)
-    → 0 < valueAt (c .before .before .before .before .before .before .before .before .before .args .network .now)
-    (c .before .before .before .before .before .before .before .before .before .args .table .now)
-    (c .before .before .loop .riders) (c .before .before .loop .v)
+    → let entry = c .before .before .before .before .before .before .before .before .before in
+    let at-loop = c .before .before in
+    0 < valueAt (entry .args .network .now) (entry .args .table .now) (at-loop .loop .riders) (at-loop .loop .v)
 some c = omega (arith, c .before .value .ensures)
 
 next-move-requires : tie.Need-next-move-requires Inv-loop μ-loop

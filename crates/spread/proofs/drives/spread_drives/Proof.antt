@@ -40,8 +40,8 @@ same-length c =
 returns : tie.Need-returns Inv-loop μ-loop
 returns c =
     let at-loop = c .before .before .before .before .before in
-    let at-slice-known = c .before .before .before .before .before .before in
-    let entry = c .before .before .before .before .before .before .before .before in
+    let at-slice-known = at-loop .before in
+    let entry = at-slice-known .before .before in
     let lent = entry .pre .lent in
     let (same, relaxed) = c .before .before .before .drive-round .ensures .quiet (c .if1 .left) in
     spreads {Link = DriveLink _ _} (drives-inside (lent .sound)) (lent .places)

@@ -50,7 +50,7 @@ part-walk-from-end c = fits c .within
 walk-from-requires : tie.Need-walk-from-requires Inv-loop μ-loop
 walk-from-requires c κs =
     let at-node-count = c .before .before .before .before .before in
-    let entry = c .before .before .before .before .before .before .before .before in (
+    let entry = at-node-count .before .before .before in (
       entry .pre .request .nodes _ (c .before .if1 .taken),
       rw (at-node-count .node-count .ensures .value)
           (row-lent (entry .pre) (c .before .before .before .loop .inv) (c .before .if1 .taken)),
@@ -64,8 +64,8 @@ add-j c =
 loop-again : tie.Need-loop-again Inv-loop μ-loop
 loop-again c =
     let at-loop = c .before .before .before .before .before .before in
-    let at-node-count = c .before .before .before .before .before .before .before .before in
-    let entry = c .before .before .before .before .before .before .before .before .before .before .before in
+    let at-node-count = at-loop .before .before in
+    let entry = at-node-count .before .before .before in
     rw (at-node-count .node-count .ensures .value) (walked-more (entry .pre) (at-loop .loop .inv)
     (c .before .before .before .before .if1 .taken) (rw (at-node-count .node-count .ensures .value) at (c .before .before .walk-from .ensures)))
 

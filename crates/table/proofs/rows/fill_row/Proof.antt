@@ -8,8 +8,8 @@ use Rattle.table.proofs.rows.fill_row.Statement.{statement}
 use Rattle.table.proofs.rows.fill_row.Tie as tie
 
 there : (c : tie.After-node-count)
-    → Lies (c .before .before .before .before .before .before .before .before .args .riders * c .node-count .result)
-    (c .node-count .result) (length (c .before .before .before .start-row .last .1 .1 .1 .1 .0))
+    → let entry = c .before .before .before .before .before .before .before .before in
+    Lies (entry .args .riders * c .node-count .result) (c .node-count .result) (length (c .before .before .before .start-row .last .1 .1 .1 .1 .0))
 there c =
     let entry = c .before .before .before .before .before .before .before .before in
     rw (c .node-count .ensures .value) (row-there (entry .pre) (c .before .before .before .start-row .ensures))
@@ -34,7 +34,7 @@ spread-drives-requires c κs =
 returns : tie.Need-returns
 returns c =
     let at-start-row = c .before .before .before .before .before .before .before in
-    let entry = c .before .before .before .before .before .before .before .before .before .before .before .before in
+    let entry = at-start-row .before .before .before .before .before in
     rw (c .before .before .before .before .node-count .ensures .value)
     (row-filled (entry .pre) (at-start-row .start-row .ensures)
     (rw (c .before .before .before .before .node-count .ensures .value) at (c .before .before .spread-drives .ensures)))

@@ -33,7 +33,7 @@ fill-row-requires c κs =
 loop-again : tie.Need-loop-again Inv-loop μ-loop
 loop-again c =
     let at-loop = c .before .before .before .before .before in
-    let entry = c .before .before .before .before .before .before .before .before .before .before .before in
+    let entry = at-loop .before .before .before .before .before .before in
     filled-more (entry .pre .0) (at-loop .loop .inv) (c .before .before .fill-row .ensures)
 
 same-length : tie.Need-same-length Inv-loop μ-loop

@@ -22,8 +22,8 @@ same-length c =
 returns : tie.Need-returns
 returns c =
     let at-before = c .before .before .before .before .before in
-    let at-before-2 = c .before .before .before .before .before .before .before in
-    let at-before-3 = c .before .before .before .before .before .before .before .before .before .before in
+    let at-before-2 = at-before .before .before in
+    let at-before-3 = at-before-2 .before .before .before in
     let entry = at-before-3 .before in
     let at-clear = at-before .before in
     let at-count = at-before-2 .before in
