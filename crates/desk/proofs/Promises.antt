@@ -92,8 +92,7 @@ reads range {number = number} {place} answer tells refused =
       high = omega (arith, same);
       fits = omega (arith, same, small);
       where-it-is = omega (arith, same, small);
-      which = omega
-          (arith, same, small);
+      which = omega (arith, same, small);
     }
 
 pub network-refused : (s : List ℕ) {told number place : ℕ} → told ≡ deskNumber shortRange (networkOutcome (networkOf s))

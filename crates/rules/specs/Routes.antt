@@ -56,7 +56,7 @@ unfoldable pub sum : ℕ → (ℕ → ℕ) → ℕ
 sum zero f = 0
 sum (suc count) f = sum count f + f count
 
--- What the route costs (2.6): the bus weight for each minute driven, and each rider's weight for each minute walked.
+-- What the route costs (2.6): the bus weight times all that is driven, and each rider's weight times what the rider walks.
 pub record Price (network : List ℕ) (q : Request) (route : List ℕ) (meetings : List ℕ) (price : ℕ) : Type 0 where
   pub driving : ℕ
   pub walking : ℕ → ℕ

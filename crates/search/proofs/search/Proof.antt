@@ -39,8 +39,7 @@ returns-2 c =
     (rw (
       c .before .before .before .before .node-count .ensures .value,
       (read-value _ _ (at-read-request .read-request .ensures) (at-enum-told .enum-told .given .1)),
-    ) at
-    (c .before .before .before .rooms-verdict .ensures)) _ (c .before .rooms .given .1)
+    ) at (c .before .before .before .rooms-verdict .ensures)) _ (c .before .rooms .given .1)
 
 plan-requires : tie.Need-plan-requires
 plan-requires c κs =
@@ -57,8 +56,7 @@ plan-requires c κs =
           (rw (
             at-node-count .node-count .ensures .value,
             (read-value _ _ (at-read-request .read-request .ensures) (at-enum-told .enum-told .given .1)),
-          ) at
-          (sym (at-rooms-verdict .rooms-verdict .ensures) ∙ c .before .before .before .enum-told2 .given .1));
+          ) at (sym (at-rooms-verdict .rooms-verdict .ensures) ∙ c .before .before .before .enum-told2 .given .1));
     })
 
 returns-3 : tie.Need-returns-3
@@ -73,8 +71,7 @@ returns-3 c =
     (rw (
       at-node-count .node-count .ensures .value,
       (read-value _ _ (at-read-request .read-request .ensures) (at-enum-told-2 .enum-told .given .1)),
-    ) at
-    (at-rooms-verdict .rooms-verdict .ensures)) (at-enum-told .enum-told2 .given .1)
+    ) at (at-rooms-verdict .rooms-verdict .ensures)) (at-enum-told .enum-told2 .given .1)
     (rw (read-value _ _ (at-read-request .read-request .ensures) (at-enum-told-2 .enum-told .given .1)) at (at-plan .plan .ensures))
 
 pub search-spec : {M : Type 1} → statement M

@@ -15,9 +15,9 @@ use Rattle.spread.proofs.walks.walk_round.Tie as tie
 
 abbrev Inv-loop : tie.InvT-loop
 Inv-loop network distances₀ m changes₀ k₀ distances changes k =
-    (k ≤ m)
+    Progress (nodeCount network) (WalkBack network) (RelaxedBelow (WalkLink network) k) distances₀ distances changes
     × (changes ≤ k)
-    × Progress (nodeCount network) (WalkBack network) (RelaxedBelow (WalkLink network) k) distances₀ distances changes
+    × (k ≤ m)
 
 abbrev μ-loop : tie.MeasureT-loop
 μ-loop network distances₀ m changes₀ k₀ distances changes k = m - k
@@ -26,29 +26,26 @@ link-count-requires : tie.Need-link-count-requires Inv-loop μ-loop
 link-count-requires c κs = c .before .before .pre .sound .long
 
 loop-holds : tie.Need-loop-holds Inv-loop μ-loop
-loop-holds c = (omega arith, omega arith, progress-none (λ i h. absurd (omega arith)))
+loop-holds c = (progress-none (λ i h. absurd (omega arith)), omega arith, omega arith)
 
 relax-walk-requires : tie.Need-relax-walk-requires Inv-loop μ-loop
 relax-walk-requires c κs =
     let entry = c .before .before .before .before .before .before in
-    (omega arith, lent-after (entry .pre) (c .before .before .loop .inv .2 .relaxing))
+    (omega arith, lent-after (entry .pre) (c .before .before .loop .inv .0 .relaxing))
 
 loop-again : tie.Need-loop-again Inv-loop μ-loop
 loop-again c =
-    let at-loop = c .before .before .before .before .before in (
-      omega arith,
-      omega arith,
-      next-link (at-loop .loop .inv .2) (c .before .before .relax-walk .ensures .1),
-    )
+    let at-loop = c .before .before .before .before .before in
+    (next-link (at-loop .loop .inv .0) (c .before .before .relax-walk .ensures .1), omega arith, omega arith)
 
 same-length : tie.Need-same-length Inv-loop μ-loop
-same-length c = relaxing-kept (c .before .loop .inv .2 .relaxing) .size
+same-length c = relaxing-kept (c .before .loop .inv .0 .relaxing) .size
 
 returns : tie.Need-returns Inv-loop μ-loop
 returns c =
     let entry = c .before .before .before .before .before in
     let all : c .before .loop .k ≡ linkCount (entry .args .network .now) = omega arith in
-    rw all at (c .before .loop .inv .2)
+    rw all at (c .before .loop .inv .0)
 
 pub walk-round-spec : {M : Type 1} → statement M
 walk-round-spec =

@@ -15,8 +15,7 @@ returns : tie.Need-returns
 returns c =
     record {
       value = rw (c .node-count .ensures .value) refl;
-      below = omega
-          (arith, row-start (c .node-count .result) (c .before .before .args .row) (omega arith) (omega arith));
+      below = omega (arith, row-start (c .node-count .result) (c .before .before .args .row) (omega arith) (omega arith));
     }
 
 pub place-spec : {M : Type 1} → statement M
