@@ -1,0 +1,132 @@
+// Makes the calls that a file of vectors lists, and holds each to what the file says of it. The head of the file, which is
+// the program's input, tells how it is written. Stops at the first line that is wrong, and shows it.
+mod calls;
+mod layout;
+mod line;
+mod rooms;
+mod tokens;
+
+use layout::*;
+use libc::STDIN_FILENO;
+use libc::STDOUT_FILENO;
+use line::NUMBERS;
+use line::Parts;
+use line::part;
+use rooms::print_number;
+use rooms::wrong;
+use tokens::*;
+
+// The bytes of the longest file, and one more.
+const TEXT: usize = 524288;
+
+// What came of the lines so far.
+struct Progress {
+    right: bool,
+    calls: usize,
+    // How many bytes of each kind a call is handed.
+    sizes: [usize; KINDS],
+}
+
+fn main() {
+    let mut text = [0u8; TEXT];
+    let size = io::read_full(STDIN_FILENO, &mut text);
+    if size == TEXT {
+        io::write_all(STDOUT_FILENO, b"the file is too long\n");
+        return;
+    }
+    run(&text[..size]);
+}
+
+fn run(text: &[u8]) {
+    let mut handed = [255u8; HANDED];
+    let mut progress = Progress {
+        right: true,
+        calls: 0,
+        sizes: [0; KINDS],
+    };
+    let mut at = 0;
+    let mut number = 0;
+    while at < text.len() {
+        let end = find(b'\n', text, at);
+        let line = &text[at..end];
+        number = number % TEXT + 1;
+        progress = after_line(progress, line, &mut handed);
+        if !progress.right {
+            show(number, line);
+            return;
+        }
+        at = end + 1;
+    }
+    print_number(b"", progress.calls as u64);
+    io::write_all(STDOUT_FILENO, b" calls, 0 wrong\n");
+}
+
+fn show(number: usize, line: &[u8]) {
+    print_number(b"line ", number as u64);
+    io::write_all(STDOUT_FILENO, b": ");
+    io::write_all(STDOUT_FILENO, line);
+    io::write_all(STDOUT_FILENO, b"\n");
+}
+
+fn after_line(progress: Progress, line: &[u8], handed: &mut [u8; HANDED]) -> Progress {
+    let first = byte_at(line, 0);
+    if first == b'#' || first == b'\n' {
+        return progress;
+    }
+    let end = find(b' ', line, 0);
+    let mut numbers = [0u64; NUMBERS];
+    let parts = line::read(line, end, &mut numbers);
+    let kind = kind_named(&line[0..end]);
+    if parts.count == 0 {
+        return unread(progress);
+    }
+    if kind < KINDS {
+        return after_record(progress, kind, &numbers, parts, handed);
+    }
+    after_call(progress, &line[0..end], &numbers, parts, handed)
+}
+
+fn unread(progress: Progress) -> Progress {
+    let sizes = progress.sizes;
+    Progress {
+        right: wrong(b"this line is not understood"),
+        calls: progress.calls,
+        sizes,
+    }
+}
+
+// What the calls from here on are handed.
+fn after_record(
+    progress: Progress,
+    kind: usize,
+    numbers: &[u64; NUMBERS],
+    parts: Parts,
+    handed: &mut [u8; HANDED],
+) -> Progress {
+    let mut sizes = progress.sizes;
+    let size = lay_out(kind, part(numbers, parts, 0), handed);
+    sizes[kind % KINDS] = size;
+    Progress {
+        right: size <= RECORD || wrong(b"this is no record"),
+        calls: progress.calls,
+        sizes,
+    }
+}
+
+fn after_call(
+    progress: Progress,
+    word: &[u8],
+    numbers: &[u64; NUMBERS],
+    parts: Parts,
+    handed: &[u8; HANDED],
+) -> Progress {
+    let sizes = progress.sizes;
+    let network = lent(handed, NETWORK, sizes[NETWORK]);
+    let request = lent(handed, REQUEST, sizes[REQUEST]);
+    let route = lent(handed, ROUTE, sizes[ROUTE]);
+    Progress {
+        right: calls::is_right(word, numbers, parts, network, request, route),
+        calls: progress.calls % TEXT + 1,
+        sizes,
+    }
+}
