@@ -96,3 +96,11 @@ impl Call {
         }
     }
 }
+
+/// An answer of the C functions, in words.
+pub fn shown(answer: u64) -> String {
+    match answer.checked_sub(1 << 63) {
+        Some(refusal) => format!("refused {} at {}", refusal % 65_536, refusal / 65_536),
+        None => format!("answered {answer}"),
+    }
+}

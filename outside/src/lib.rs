@@ -1,6 +1,7 @@
-//! Document 01 a second time, in plain Rust and by other means than the crates, and the cases by which the two are
-//! compared.
+//! The rules (docs/RULES.md) a second time, in plain Rust and by other means than the crates, and the cases by which
+//! the two are compared.
 
+pub mod arguments;
 pub mod call;
 pub mod damage;
 pub mod desk_cases;
@@ -8,6 +9,7 @@ pub mod host;
 pub mod least;
 pub mod listing;
 pub mod memory;
+pub mod notation;
 pub mod plan_cases;
 pub mod price;
 pub mod program;
@@ -16,5 +18,5 @@ pub mod record;
 pub mod search;
 pub mod shapes;
 pub mod tally;
-pub mod town;
+pub mod vectors;
 pub mod walk;

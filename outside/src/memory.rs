@@ -98,12 +98,6 @@ impl Memory {
         Some(format!("{} place {place} of {} holds {theirs} instead of {ours}", span.name, span.length))
     }
 
-    /// What a place of a part holds.
-    pub fn value(&self, part: &str, place: usize) -> u64 {
-        let span = self.spans.iter().find(|span| span.name == part).expect("the call has such a part");
-        span.value(&self.bytes, place)
-    }
-
     /// The parts of the memory, cut where they are long.
     pub fn shown(&self) -> String {
         let show = |span: &Span| {

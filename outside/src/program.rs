@@ -20,7 +20,7 @@ pub fn output(input: &[u8]) -> String {
 }
 
 /// The network record and the request record in the bytes taken.
-fn parted(input: &[u8]) -> (&[u8], &[u8]) {
+pub fn parted(input: &[u8]) -> (&[u8], &[u8]) {
     let stated = if input.len() < 5 { input.len() } else { number(&input[1..5]) };
     input.split_at(stated.min(input.len()))
 }

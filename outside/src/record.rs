@@ -152,6 +152,27 @@ pub fn read_both(network: &[u8], request: &[u8]) -> Answer<(Network, Request)> {
     Ok((network, request))
 }
 
+/// The eight bytes of a link in its record (1.10).
+pub fn link_bytes(record: &[u8], link: u64) -> &[u8] {
+    match Network::read(record) {
+        Ok(network) if link < network.links.len() as u64 => &record[9 + 8 * link as usize..][..8],
+        _ => &record[..0],
+    }
+}
+
+/// The value that a request is read into (1.9): source, target, bus weight and riders, seven nodes, seven weights.
+pub fn request_value(network: &[u8], request: &[u8]) -> [u16; 4 + 2 * MOST_RIDERS] {
+    let mut value = [0; 4 + 2 * MOST_RIDERS];
+    if let Ok((_, Request { source, target, bus_weight, riders })) = read_both(network, request) {
+        value[..4].copy_from_slice(&[source as u16, target as u16, u16::from(bus_weight), riders.len() as u16]);
+        for (j, rider) in riders.iter().enumerate() {
+            value[4 + j] = rider.node as u16;
+            value[4 + MOST_RIDERS + j] = u16::from(rider.weight);
+        }
+    }
+    value
+}
+
 /// The big-endian number that bytes hold.
 pub fn number(bytes: &[u8]) -> usize {
     bytes.iter().fold(0, |high, &byte| high << 8 | usize::from(byte))

@@ -10,6 +10,11 @@ impl Tally {
         *self.0.entry(what).or_default() += 1;
     }
 
+    /// All that occurred, each with how often.
+    pub fn listed(&self) -> String {
+        self.0.iter().map(|(what, count)| format!("{what} {count}")).collect::<Vec<_>>().join(", ")
+    }
+
     /// Errs on anything that occurred less often than it should have.
     pub fn check(&self, expected: &[String], least: usize) -> Result<(), String> {
         let count = |what: &String| self.0.get(what).copied().unwrap_or(0);

@@ -1,18 +1,20 @@
 //! Compares the C functions of the desk and of the tablet with the rules: each answer, and all memory after each call.
-//! Its arguments are the command that runs the host.
+//! Its arguments are the file of vectors and the command that runs the host; `--compare-only` may come first.
 
-use outside::call::Call;
+use outside::arguments::compare_only;
+use outside::call::{shown, Call};
 use outside::host::{Answers, Host};
 use outside::memory::Memory;
 use outside::record::{read_both, Answer, MOST_LINKS, MOST_NODES, MOST_RIDERS};
 use outside::search::{FIRST_DRIVE, STEP_RANGE};
 use outside::tally::Tally;
-use outside::{desk_cases, listing, town};
+use outside::vectors::{self, Entry, Vector};
+use outside::{desk_cases, listing};
 use std::error::Error;
 use std::io::Write;
 use std::process::{self, ChildStdin};
 use std::sync::mpsc::{sync_channel, SyncSender};
-use std::{env, thread};
+use std::{env, fs, thread};
 
 const CASES: u64 = 60_000;
 /// How often each outcome must have occurred.
@@ -27,71 +29,88 @@ const PLAN_KINDS: [&str; 5] = [
     "plan with all limits reached",
 ];
 
+/// A call to make; the seed is that of the bytes around its parts.
+struct Case {
+    name: String,
+    seed: u64,
+    call: Call,
+}
+
 fn main() {
-    let command: Vec<String> = env::args().skip(1).collect();
-    match compare(&command) {
-        Ok(calls) => println!("outside: {calls} calls of the desk and the tablet agree with the rules"),
-        Err(error) => {
-            println!("outside: {error}");
-            process::exit(1);
-        }
+    let arguments: Vec<String> = env::args().skip(1).collect();
+    if let Err(error) = compare(&arguments) {
+        println!("outside: {error}");
+        process::exit(1);
     }
 }
 
-fn compare(command: &[String]) -> Result<u64, Box<dyn Error>> {
-    for known in town::known() {
-        known.check()?;
+fn compare(arguments: &[String]) -> Result<(), Box<dyn Error>> {
+    let (compare_only, arguments) = compare_only(arguments);
+    let (file, command) = arguments.split_first().ok_or("no file of vectors was given")?;
+    let text = fs::read_to_string(file).map_err(|error| format!("{file}: {error}"))?;
+    let vectors = vectors::read(&text).map_err(|error| format!("{file}, {error}"))?;
+    if !compare_only {
+        vectors.iter().try_for_each(Vector::check).map_err(|error| format!("{file}, {error}"))?;
+        listing::check()?;
     }
-    listing::check()?;
+    let mut by_entry = Tally::default();
+    vectors.iter().for_each(|vector| by_entry.add(vector.name().into()));
+    let (compared, tally) = compare_with_host(command, vectors)?;
+    if !compare_only {
+        tally.check(&outcomes(), LEAST)?;
+    }
+    println!("outside: {compared} calls of the desk and the tablet agree with the rules");
+    println!("outside: all calls of {file} agree: {}", by_entry.listed());
+    Ok(())
+}
+
+/// Says how many calls were compared, and what occurred.
+fn compare_with_host(command: &[String], vectors: Vec<Vector>) -> Result<(u64, Tally), Box<dyn Error>> {
     let (host, calls, mut answers) = Host::start(command)?;
     // The caller runs ahead by a few calls only, and the host is read from all the while.
     let (sender, receiver) = sync_channel(16);
-    let caller = thread::spawn(move || make_calls(calls, sender));
+    let caller = thread::spawn(move || make_calls(vectors, calls, sender));
     let mut tally = Tally::default();
     let mut compared = 0;
-    for call in receiver {
-        compare_call(compared, call, &mut answers, &mut tally)?;
+    for case in receiver {
+        compare_case(case, &mut answers, &mut tally)?;
         compared += 1;
     }
     caller.join().map_err(|_| "the caller failed")?;
     host.end(answers)?;
-    tally.check(&outcomes(), LEAST)?;
-    Ok(compared)
+    Ok((compared, tally))
 }
 
 /// Sends the calls to the host, each to the comparison first.
-fn make_calls(mut host: ChildStdin, comparison: SyncSender<Call>) {
-    let known = town::known().into_iter().map(|known| known.call);
-    for (case, call) in known.chain((0..CASES).map(desk_cases::call)).enumerate() {
-        let message = Memory::of(&call, case as u64).message(&call);
-        if comparison.send(call).is_err() || host.write_all(&message).is_err() {
+fn make_calls(vectors: Vec<Vector>, mut host: ChildStdin, comparison: SyncSender<Case>) {
+    let known = vectors.into_iter().filter_map(|Vector { line, entry, .. }| match entry {
+        Entry::Function(call) => Some(Case { name: format!("line {line}"), seed: line as u64, call }),
+        Entry::Link { .. } | Entry::Size { .. } => None,
+    });
+    let random = (0..CASES).map(|case| Case { name: format!("call {case}"), seed: case, call: desk_cases::call(case) });
+    for case in known.chain(random) {
+        let message = Memory::of(&case.call, case.seed).message(&case.call);
+        if comparison.send(case).is_err() || host.write_all(&message).is_err() {
             return;
         }
     }
 }
 
-fn compare_call(case: u64, call: Call, answers: &mut Answers, tally: &mut Tally) -> Result<(), Box<dyn Error>> {
-    let before = Memory::of(&call, case);
-    let mut answered = call;
-    let answer = answered.answer();
-    let ours = answered.encoded(answer);
+fn compare_case(case: Case, answers: &mut Answers, tally: &mut Tally) -> Result<(), Box<dyn Error>> {
+    let Case { name, seed, mut call } = case;
+    let before = Memory::of(&call, seed);
+    let answer = call.answer();
+    let ours = call.encoded(answer);
     let (theirs, after) = answers.next(before.bytes.len())?;
     let difference = match ours == theirs {
-        true => Memory::of(&answered, case).difference(&after),
+        true => Memory::of(&call, seed).difference(&after),
         false => Some(format!("{} instead of {}", shown(theirs), shown(ours))),
     };
     if let Some(difference) = difference {
-        return Err(format!("call {case}, {}: {difference}\n{}", answered.name(), before.shown()).into());
+        return Err(format!("{name}, {}: {difference}\n{}", call.name(), before.shown()).into());
     }
-    note(tally, &answered, answer);
+    note(tally, &call, answer);
     Ok(())
-}
-
-fn shown(answer: u64) -> String {
-    match answer.checked_sub(1 << 63) {
-        Some(refusal) => format!("refused {} at {}", refusal % 65_536, refusal / 65_536),
-        None => format!("answered {answer}"),
-    }
 }
 
 fn note(tally: &mut Tally, call: &Call, answer: Answer<u64>) {

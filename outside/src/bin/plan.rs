@@ -1,11 +1,11 @@
 //! Compares what the program `plan` prints with the rules, byte for byte.
-//! Its arguments are the command that runs `plan`.
+//! Its arguments are the command that runs `plan`; `--compare-only` may come first.
 
+use outside::arguments::compare_only;
 use outside::plan_cases::input;
 use outside::program::{output, MOST_INPUT};
 use outside::record::number;
 use outside::tally::Tally;
-use outside::town;
 use std::error::Error;
 use std::io::{ErrorKind, Write};
 use std::process::{self, ChildStdin, Command, Stdio};
@@ -21,7 +21,22 @@ const WORKERS: u64 = 2;
 const FIRST_PAUSE: Duration = Duration::from_millis(120);
 const PAUSE: Duration = Duration::from_millis(10);
 
-const CASE_A: &str = "ok 8 3\ndrive 0 0 1\nmeet 0 1 2\ndrive 1 1 3\n";
+/// Case A in the small town (5.1, 5.2): its two records, and what is printed.
+const CASE_A: [&[u8]; 2] = [
+    &[
+        1, 0, 0, 0, 73, 0, 5, 0, 8, // the eight links follow
+        0, 0, 0, 1, 0, 3, 0, 9, //
+        0, 1, 0, 3, 0, 3, 0, 9, //
+        0, 0, 0, 2, 0, 5, 255, 255, //
+        0, 2, 0, 3, 0, 4, 0, 9, //
+        0, 4, 0, 1, 255, 255, 0, 2, //
+        0, 4, 0, 2, 0, 1, 0, 6, //
+        0, 1, 0, 4, 255, 255, 0, 2, //
+        0, 2, 0, 4, 0, 1, 0, 6,
+    ],
+    &[1, 0, 12, 0, 0, 0, 3, 1, 1, 0, 4, 1],
+];
+const CASE_A_PRINTED: &str = "ok 8 3\ndrive 0 0 1\nmeet 0 1 2\ndrive 1 1 3\n";
 
 /// Inputs that must have occurred as well.
 const INPUT_KINDS: [&str; 5] = [
@@ -33,8 +48,9 @@ const INPUT_KINDS: [&str; 5] = [
 ];
 
 fn main() {
-    let command: Vec<String> = env::args().skip(1).collect();
-    match compare(&command) {
+    let arguments: Vec<String> = env::args().skip(1).collect();
+    let (compare_only, command) = compare_only(&arguments);
+    match compare(command, compare_only) {
         Ok(()) => println!("outside: {CASES} runs of plan print what the rules say"),
         Err(error) => {
             println!("outside: {error}");
@@ -43,8 +59,20 @@ fn main() {
     }
 }
 
-fn compare(command: &[String]) -> Result<(), String> {
-    check_case_a(command)?;
+fn compare(command: &[String], compare_only: bool) -> Result<(), String> {
+    if !compare_only && output(&CASE_A.concat()) != CASE_A_PRINTED {
+        return Err("the rules print something else for case A".into());
+    }
+    compare_input(command, vec![CASE_A.concat()]).map_err(|difference| format!("plan, case A: {difference}"))?;
+    let tally = compare_cases(command)?;
+    if compare_only {
+        return Ok(());
+    }
+    tally.check(&outcomes(), LEAST)
+}
+
+/// Says what occurred, if `plan` prints what it should in all cases.
+fn compare_cases(command: &[String]) -> Result<Tally, String> {
     let work = |worker| (worker..CASES).step_by(WORKERS as usize).map(|case| compare_case(command, case)).collect();
     let occurred: Vec<Result<Vec<_>, String>> = thread::scope(|scope| {
         let workers: Vec<_> = (0..WORKERS).map(|worker| scope.spawn(move || work(worker))).collect();
@@ -54,16 +82,7 @@ fn compare(command: &[String]) -> Result<(), String> {
     for cases in occurred {
         cases?.into_iter().flatten().for_each(|what| tally.add(what));
     }
-    tally.check(&outcomes(), LEAST)
-}
-
-fn check_case_a(command: &[String]) -> Result<(), String> {
-    let request = town::request(0, 3, 1, &[(4, 1)]).record();
-    let input = [town::network().record(), request].concat();
-    if output(&input) != CASE_A {
-        return Err("the rules print something else for case A".into());
-    }
-    compare_input(command, vec![input]).map(|_| ())
+    Ok(tally)
 }
 
 /// Says what occurred, if `plan` prints what it should.
