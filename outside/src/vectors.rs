@@ -9,6 +9,10 @@ use crate::record::{link_bytes, request_value};
 /// What every place of a room holds before the call.
 const BEFORE: u8 = 77;
 
+/// The entries that the file calls.
+pub const ENTRIES: [&str; 8] = ["network", "request", "link", "size", "walk", "price", "tablet", "search"];
+
+/// A call of the file, with what it must answer and what its rooms must begin with.
 pub struct Vector {
     pub line: usize,
     pub entry: Entry,
@@ -16,6 +20,7 @@ pub struct Vector {
     lists: Vec<Vec<u64>>,
 }
 
+/// What is called: one of the C functions, or one of two entries that C hosts do not have.
 pub enum Entry {
     Function(Call),
     Link { network: Vec<u8>, link: u64 },

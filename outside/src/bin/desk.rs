@@ -49,12 +49,13 @@ fn compare(arguments: &[String]) -> Result<(), Box<dyn Error>> {
     let (file, command) = arguments.split_first().ok_or("no file of vectors was given")?;
     let text = fs::read_to_string(file).map_err(|error| format!("{file}: {error}"))?;
     let vectors = vectors::read(&text).map_err(|error| format!("{file}, {error}"))?;
-    if !compare_only {
-        vectors.iter().try_for_each(Vector::check).map_err(|error| format!("{file}, {error}"))?;
-        listing::check()?;
-    }
     let mut by_entry = Tally::default();
     vectors.iter().for_each(|vector| by_entry.add(vector.name().into()));
+    if !compare_only {
+        vectors.iter().try_for_each(Vector::check).map_err(|error| format!("{file}, {error}"))?;
+        by_entry.check(&vectors::ENTRIES.map(String::from), 1)?;
+        listing::check()?;
+    }
     let (compared, tally) = compare_with_host(command, vectors)?;
     if !compare_only {
         tally.check(&outcomes(), LEAST)?;
