@@ -4,17 +4,21 @@
 #include "../town.h"
 #include "tivelgor.h"
 
-/* The room that n = 5 nodes and l = 1 rider need: l * n distances, 2^l * n finishes, l + (l + 1) * (n - 1) steps. */
-enum { nodes = 5, riders = 1, finishes = 2 * nodes, most_steps = riders + (riders + 1) * (nodes - 1) };
+/* The nodes of the town and the riders of the request, and the room that a search for them needs. */
+enum {
+    nodes = 5,
+    riders = 1,
+    distance_places = TIVELGOR_NEED_DISTANCES(nodes, riders),
+    table_places = TIVELGOR_NEED_TABLE(nodes, riders),
+    step_places = TIVELGOR_NEED_STEPS(nodes, riders)
+};
 
 /* Says what was refused and gives 0, or gives 1. */
 static int granted(const char *name, uint64_t answer)
 {
-    const uint64_t refused = (uint64_t)1 << 63;
-
-    if (answer < refused)
+    if (!TIVELGOR_REFUSED(answer))
         return 1;
-    printf("%s: refused %u at %u\n", name, (unsigned)(answer % 65536), (unsigned)((answer - refused) / 65536));
+    printf("%s: refused %u at %llu\n", name, TIVELGOR_NUMBER(answer), (unsigned long long)TIVELGOR_PLACE(answer));
     return 0;
 }
 
@@ -24,7 +28,7 @@ static void read_records(void)
     uint64_t request = tivelgor_request(town, sizeof town, rider_at_4, sizeof rider_at_4);
 
     if (granted("the town", network))
-        printf("the town: %u nodes, %u links\n", (unsigned)(network / 65536), (unsigned)(network % 65536));
+        printf("the town: %u nodes, %u links\n", TIVELGOR_NODES(network), TIVELGOR_LINKS(network));
     if (granted("the request", request))
         printf("the request: %u rider\n", (unsigned)request);
     granted("a town cut short", tivelgor_network(town, sizeof town - 1));
@@ -39,7 +43,7 @@ static void walk(const char *name, size_t start)
         return;
     printf("%s:", name);
     for (v = 0; v < nodes; v++)
-        if (distances[v] == 0xFFFFFFFF)
+        if (distances[v] == TIVELGOR_NO_DISTANCE)
             printf(" -");
         else
             printf(" %u", (unsigned)distances[v]);
@@ -57,16 +61,17 @@ static void price(const char *name, const uint16_t *route, size_t length)
 
 static void plan(const char *name, size_t room)
 {
-    uint32_t distances[riders * nodes];
-    uint64_t table[finishes];
-    uint16_t steps[most_steps];
-    uint64_t i, answer = tivelgor_search(town, sizeof town, rider_at_4, sizeof rider_at_4, distances, riders * nodes,
-                                         table, finishes, steps, room);
+    uint32_t distances[distance_places];
+    uint64_t table[table_places];
+    uint16_t steps[step_places];
+    uint64_t answer = tivelgor_search(town, sizeof town, rider_at_4, sizeof rider_at_4, distances, distance_places,
+                                      table, table_places, steps, room);
+    unsigned i;
 
     if (!granted(name, answer))
         return;
-    printf("%s: cost %llu, steps", name, (unsigned long long)(answer / 4096));
-    for (i = 0; i < answer % 4096; i++)
+    printf("%s: cost %llu, steps", name, (unsigned long long)TIVELGOR_COST(answer));
+    for (i = 0; i < TIVELGOR_STEPS(answer); i++)
         printf(" %u", (unsigned)steps[i]);
     printf("\ntable: place 5 holds %llu, place 1 %llu, place 3 %llu\n", (unsigned long long)table[5],
            (unsigned long long)table[1], (unsigned long long)table[3]);
@@ -86,7 +91,7 @@ int main(void)
     price("past node 2", past_node_2, 2);
     price("past the rider", past_the_rider, 4);
     price("through the wall", through_the_wall, 2);
-    plan("the right plan", most_steps);
-    plan("a plan in too small a room", most_steps - 1);
+    plan("the right plan", step_places);
+    plan("a plan in too small a room", step_places - 1);
     return 0;
 }

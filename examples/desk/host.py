@@ -4,7 +4,13 @@ import ctypes
 import sys
 from pathlib import Path
 
+# As in include/tivelgor.h: a refusal is REFUSED + PLACE * place + number; tivelgor_network gives NODE * n + m, and
+# tivelgor_search COST * cost + steps.
 REFUSED = 1 << 63
+PLACE = 1 << 16
+NODE = 1 << 16
+COST = 1 << 12
+
 NETWORK_LENGTH = 73
 
 desk = ctypes.CDLL(str(Path(sys.argv[1]).resolve()))
@@ -21,20 +27,20 @@ def part(memory):
 def granted(answer):
     """The answer, unless it is a refusal."""
     if answer >= REFUSED:
-        sys.exit(f"refused {answer % 65536} at {(answer - REFUSED) // 65536}")
+        sys.exit(f"refused {answer % PLACE} at {(answer - REFUSED) // PLACE}")
     return answer
 
 
 def plan(network, request):
     """The cost and the steps of the right plan."""
     records = part(network) + part(request)
-    n = granted(desk.tivelgor_network(*part(network))) // 65536
+    n = granted(desk.tivelgor_network(*part(network))) // NODE
     l = granted(desk.tivelgor_request(*records))
     distances = (ctypes.c_uint32 * max(1, l * n))()
     table = (ctypes.c_uint64 * (2**l * n))()
     steps = (ctypes.c_uint16 * max(1, l + (l + 1) * (n - 1)))()
     answer = granted(desk.tivelgor_search(*records, *part(distances), *part(table), *part(steps)))
-    return answer // 4096, steps[: answer % 4096]
+    return answer // COST, steps[: answer % COST]
 
 
 records = (Path(__file__).parents[2] / "crates/plan/stdin").read_bytes()

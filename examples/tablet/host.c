@@ -6,13 +6,12 @@
 
 static void price(const char *name, const uint8_t *route, size_t length)
 {
-    const uint64_t refused = (uint64_t)1 << 63;
     uint64_t answer = tivelgor_tablet_price(town, sizeof town, rider_at_4, sizeof rider_at_4, route, length);
 
-    if (answer < refused)
-        printf("%s: price %llu\n", name, (unsigned long long)answer);
+    if (TIVELGOR_REFUSED(answer))
+        printf("%s: refused %u\n", name, TIVELGOR_NUMBER(answer));
     else
-        printf("%s: refused %llu\n", name, (unsigned long long)(answer - refused));
+        printf("%s: price %llu\n", name, (unsigned long long)answer);
 }
 
 int main(void)
