@@ -17,7 +17,7 @@ enum { nodes_at = 5, links_at = 9, link_bytes = 8 };
 enum { from_at = 0, to_at = 2, drive_at = 4, walk_at = 6 };
 enum { source_at = 3, target_at = 5, bus_weight_at = 7, rider_count_at = 8, riders_at = 9, rider_bytes = 3 };
 
-/* A file is taken whole and judged by the library, up to far more than a record can have. */
+/* A file is taken whole, whatever the library will say of it, up to a length that no record comes near. */
 enum { most_bytes = 16 * 1024 * 1024 };
 
 struct record {
@@ -58,12 +58,14 @@ static const struct refusal refusals[] = {
     {0, "for a reason that this command has no words for", NULL},
 };
 
+/* Says what went wrong with what, and ends the program. */
 static void fail(const char *subject, const char *trouble)
 {
     fprintf(stderr, "tivelgor: %s: %s\n", subject, trouble);
     exit(status_failed);
 }
 
+/* Tells a refusal, and ends the program. */
 static void refuse(unsigned number, uint64_t place)
 {
     const struct refusal *refusal = refusals;
@@ -269,7 +271,7 @@ static void walk(char **words)
             printf("node %u: walk %u\n", node, (unsigned)distances[node]);
 }
 
-/* Takes so many arguments, or more where it may, with NULL behind the last. */
+/* It needs so many arguments, and may take more; run gets them with NULL behind the last. */
 struct subcommand {
     const char *name, *arguments, *summary, *details;
     int needs, takes_more;
