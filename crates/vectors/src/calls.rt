@@ -31,7 +31,7 @@ pub fn is_right(
     }
     if same(word, b"size") {
         let size = records::network_size(network);
-        return has_parts(parts, 2) && answer_is(size as u64, part(numbers, parts, 1));
+        return has_parts(parts, 0, 0) && answer_is(size as u64, part(numbers, parts, 1));
     }
     if same(word, b"walk") {
         return walks(numbers, parts, network);
@@ -48,16 +48,18 @@ pub fn is_right(
     wrong(b"there is no such call")
 }
 
-// Whether a line has an answer, and no part that its call does not have.
-fn has_parts(parts: Parts, most: usize) -> bool {
-    if 2 <= parts.count && parts.count <= most {
+// Whether a line has as many numbers before its answer as the call is given, one for the answer, and no further part
+// than the call has rooms.
+fn has_parts(parts: Parts, given: usize, rooms: usize) -> bool {
+    let ends = parts.ends;
+    if ends[0] == given && ends[1] == ends[0] % NUMBERS + 1 && parts.count <= 2 + rooms % PARTS {
         return true;
     }
-    wrong(b"these are not the parts of the call")
+    wrong(b"these are not the numbers and parts of the call")
 }
 
 fn reads_network(numbers: &[u64; NUMBERS], parts: Parts, network: &[u8]) -> bool {
-    has_parts(parts, 2) && answer_is(tivelgor_network(network), part(numbers, parts, 1))
+    has_parts(parts, 0, 0) && answer_is(tivelgor_network(network), part(numbers, parts, 1))
 }
 
 fn reads_request(numbers: &[u64; NUMBERS], parts: Parts, network: &[u8], request: &[u8]) -> bool {
@@ -65,7 +67,7 @@ fn reads_request(numbers: &[u64; NUMBERS], parts: Parts, network: &[u8], request
     let value = read.request;
     let mut listed = [0; LONGS];
     put_value(value, &mut listed);
-    has_parts(parts, 3)
+    has_parts(parts, 0, 1)
         && answer_is(tivelgor_request(network, request), part(numbers, parts, 1))
         && longs_are(b"value", &listed, part(numbers, parts, 2), 0)
 }
@@ -88,7 +90,7 @@ fn put_value(value: Request, listed: &mut [u64; LONGS]) {
 
 fn lends_link(numbers: &[u64; NUMBERS], parts: Parts, network: &[u8]) -> bool {
     let link = records::link(network, number_at(numbers, 0) as usize);
-    has_parts(parts, 3)
+    has_parts(parts, 1, 1)
         && answer_is(link.len() as u64, part(numbers, parts, 1))
         && bytes_are(b"part", link, part(numbers, parts, 2))
 }
@@ -101,7 +103,7 @@ fn walks(numbers: &[u64; NUMBERS], parts: Parts, network: &[u8]) -> bool {
         return wrong(b"no room has so many places");
     }
     let answer = tivelgor_walk(network, start, &mut distances[0..places]);
-    has_parts(parts, 3)
+    has_parts(parts, 2, 1)
         && answer_is(answer, part(numbers, parts, 1))
         && words_are(b"distances", &distances, part(numbers, parts, 2))
 }
@@ -125,7 +127,7 @@ fn prices(
         first(&links, route.len() / 2),
         &mut meeting[0..places],
     );
-    has_parts(parts, 3)
+    has_parts(parts, 1, 1)
         && answer_is(answer, part(numbers, parts, 1))
         && shorts_are(b"meeting", &meeting, part(numbers, parts, 2))
 }
@@ -142,7 +144,7 @@ fn prices_on_tablet(
         return wrong(b"the route has not so many bytes");
     }
     let answer = tivelgor_tablet_price(network, request, &route[0..bytes]);
-    has_parts(parts, 2) && answer_is(answer, part(numbers, parts, 1))
+    has_parts(parts, 1, 0) && answer_is(answer, part(numbers, parts, 1))
 }
 
 fn searches(numbers: &[u64; NUMBERS], parts: Parts, network: &[u8], request: &[u8]) -> bool {
@@ -162,7 +164,7 @@ fn searches(numbers: &[u64; NUMBERS], parts: Parts, network: &[u8], request: &[u
         &mut table[0..table_places],
         &mut steps[0..step_places],
     );
-    has_parts(parts, 5)
+    has_parts(parts, 3, 3)
         && answer_is(answer, part(numbers, parts, 1))
         && words_are(b"distances", &distances, part(numbers, parts, 2))
         && longs_are(b"table", &table, part(numbers, parts, 3), BEFORE)

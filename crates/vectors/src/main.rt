@@ -107,7 +107,7 @@ fn after_record(
     let size = lay_out(kind, part(numbers, parts, 0), handed);
     sizes[kind % KINDS] = size;
     Progress {
-        right: size <= RECORD || wrong(b"this is no record"),
+        right: size <= RECORD && parts.count == 1 || wrong(b"this is not to be handed over"),
         calls: progress.calls,
         sizes,
     }

@@ -23,7 +23,7 @@ pub struct Repeat {
     pub times: usize,
 }
 
-// Plain, or the sign that stands for a number with every bit set.
+// Digits, or the sign that stands for a number with every bit set.
 struct Plain {
     value: u64,
     next: usize,
