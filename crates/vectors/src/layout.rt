@@ -1,6 +1,7 @@
 // What the calls are handed, laid out as bytes.
-use crate::line::number_at;
-use crate::tokens::same;
+use crate::numbers::NUMBERS;
+use crate::numbers::read;
+use crate::text::same;
 ghost use Prim.Native.Nat.{_≤_};
 
 // The kinds of what is handed over, each with room for a network of 2,049 links and one byte.
@@ -46,19 +47,32 @@ pub fn lent(handed: &[u8], kind: usize, size: usize) -> &[u8] {
     &handed[start..end]
 }
 
-// Lays the fields of a record out, or the links of a route, with 255 behind them, and gives how many bytes are lent: two
-// for each link, or as many as the number before the fields says.
-pub fn lay_out(kind: usize, numbers: &[u64], handed: &mut [u8; HANDED]) -> usize {
+// Lays out what a line lists, with 255 behind it: the links of a route, or the fields of a record behind the number of bytes
+// that are lent. Gives that number, which for a route is two for each link.
+pub fn lay_out(kind: usize, part: &[u8], handed: &mut [u8; HANDED]) -> usize {
+    let mut list = [0; NUMBERS];
+    let count = read(part, &mut list);
     clear(kind % KINDS * RECORD, handed);
     if kind == ROUTE {
-        put_fields(kind, numbers, handed);
-        return 2 * (numbers.len() % HANDED);
+        put_fields(kind, 0, count, &list, handed);
+    } else {
+        put_fields(kind, 1, count, &list, handed);
     }
-    if numbers.len() == 0 {
+    bytes_lent(kind, count, list[0])
+}
+
+// More than there can be, where a line is not understood.
+fn bytes_lent(kind: usize, count: usize, first: u64) -> usize {
+    if NUMBERS < count {
         return HANDED;
     }
-    put_fields(kind, &numbers[1..], handed);
-    number_at(numbers, 0) as usize
+    if kind == ROUTE {
+        return 2 * count;
+    }
+    if count == 0 {
+        return HANDED;
+    }
+    first as usize
 }
 
 fn clear(start: usize, handed: &mut [u8; HANDED])
@@ -71,10 +85,20 @@ fn clear(start: usize, handed: &mut [u8; HANDED])
     }
 }
 
-fn put_fields(kind: usize, numbers: &[u64], handed: &mut [u8; HANDED]) {
-    let mut i = 0;
-    while i < numbers.len() {
-        put(kind, field(kind, i % RECORD), numbers[i], handed);
+// Puts the numbers of a list from the first on into the fields.
+fn put_fields(
+    kind: usize,
+    first: usize,
+    count: usize,
+    list: &[u64; NUMBERS],
+    handed: &mut [u8; HANDED],
+) {
+    let mut i = first;
+    while i < count {
+        if NUMBERS <= i {
+            return;
+        }
+        put(kind, field(kind, (i - first) % RECORD), list[i], handed);
         i += 1;
     }
 }

@@ -2,19 +2,16 @@
 // the program's input, tells how it is written. Stops at the first line that is wrong, and shows it.
 mod calls;
 mod layout;
-mod line;
+mod numbers;
 mod rooms;
-mod tokens;
+mod text;
 
 use layout::*;
 use libc::STDIN_FILENO;
 use libc::STDOUT_FILENO;
-use line::NUMBERS;
-use line::Parts;
-use line::part;
 use rooms::print_number;
 use rooms::wrong;
-use tokens::*;
+use text::*;
 
 // The bytes of the longest file, and one more.
 const TEXT: usize = 524288;
@@ -31,7 +28,7 @@ fn main() {
     let mut text = [0u8; TEXT];
     let size = io::read_full(STDIN_FILENO, &mut text);
     if size == TEXT {
-        io::write_all(STDOUT_FILENO, b"the file is too long\n");
+        wrong(b"the file is too long");
         return;
     }
     run(&text[..size]);
@@ -64,8 +61,7 @@ fn run(text: &[u8]) {
 fn show(number: usize, line: &[u8]) {
     print_number(b"line ", number as u64);
     io::write_all(STDOUT_FILENO, b": ");
-    io::write_all(STDOUT_FILENO, line);
-    io::write_all(STDOUT_FILENO, b"\n");
+    wrong(line);
 }
 
 fn after_line(progress: Progress, line: &[u8], handed: &mut [u8; HANDED]) -> Progress {
@@ -73,59 +69,38 @@ fn after_line(progress: Progress, line: &[u8], handed: &mut [u8; HANDED]) -> Pro
     if first == b'#' || first == b'\n' {
         return progress;
     }
-    let end = find(b' ', line, 0);
-    let mut numbers = [0u64; NUMBERS];
-    let parts = line::read(line, end, &mut numbers);
-    let kind = kind_named(&line[0..end]);
-    if parts.count == 0 {
-        return unread(progress);
-    }
+    let kind = kind_named(word(line));
     if kind < KINDS {
-        return after_record(progress, kind, &numbers, parts, handed);
+        return after_record(progress, kind, line, handed);
     }
-    after_call(progress, &line[0..end], &numbers, parts, handed)
-}
-
-fn unread(progress: Progress) -> Progress {
-    let sizes = progress.sizes;
-    Progress {
-        right: wrong(b"this line is not understood"),
-        calls: progress.calls,
-        sizes,
-    }
+    after_call(progress, line, handed)
 }
 
 // What the calls from here on are handed.
 fn after_record(
     progress: Progress,
     kind: usize,
-    numbers: &[u64; NUMBERS],
-    parts: Parts,
+    line: &[u8],
     handed: &mut [u8; HANDED],
 ) -> Progress {
     let mut sizes = progress.sizes;
-    let size = lay_out(kind, part(numbers, parts, 0), handed);
+    let size = lay_out(kind, part(line, 0), handed);
     sizes[kind % KINDS] = size;
     Progress {
-        right: size <= RECORD && parts.count == 1 || wrong(b"this is not to be handed over"),
+        right: size <= RECORD && part(line, 1).len() == 0
+            || wrong(b"nothing that can be handed over"),
         calls: progress.calls,
         sizes,
     }
 }
 
-fn after_call(
-    progress: Progress,
-    word: &[u8],
-    numbers: &[u64; NUMBERS],
-    parts: Parts,
-    handed: &[u8; HANDED],
-) -> Progress {
+fn after_call(progress: Progress, line: &[u8], handed: &[u8; HANDED]) -> Progress {
     let sizes = progress.sizes;
     let network = lent(handed, NETWORK, sizes[NETWORK]);
     let request = lent(handed, REQUEST, sizes[REQUEST]);
     let route = lent(handed, ROUTE, sizes[ROUTE]);
     Progress {
-        right: calls::is_right(word, numbers, parts, network, request, route),
+        right: calls::is_right(line, network, request, route),
         calls: progress.calls % TEXT + 1,
         sizes,
     }

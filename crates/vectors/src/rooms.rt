@@ -1,5 +1,6 @@
-// Whether an answer and the places of a room are what a line says. The first difference is shown.
-use crate::line::number_at;
+// Whether an answer and the places of a room are what a part of the line lists. The first difference is shown.
+use crate::numbers::NUMBERS;
+use crate::numbers::read;
 use libc::STDOUT_FILENO;
 
 // The places of a room of each width: all that can be needed, and some more.
@@ -7,60 +8,55 @@ pub const SHORTS: usize = 4112;
 
 pub const WORDS: usize = 3600;
 
-pub const LONGS: usize = 65552;
+pub const LONGS: usize = NUMBERS;
 
-// What every place of a room holds before a call.
+// What every place of a room holds before a call, and all behind what is listed afterwards.
 pub const BEFORE: u64 = 77;
 
-pub fn answer_is(got: u64, right: &[u64]) -> bool {
-    is_place(b"answer", 0, got, number_at(right, 0))
+pub fn answer_is(got: u64, part: &[u8]) -> bool {
+    let mut right = [0; NUMBERS];
+    let listed = read(part, &mut right);
+    all_read(listed == 1) && is_place(b"answer", 0, got, right[0])
 }
 
-// The places behind those that are listed are to hold `rest`.
-pub fn longs_are(what: &[u8], room: &[u64; LONGS], right: &[u64], rest: u64) -> bool {
+// Places that are not listed are to hold `rest`.
+pub fn longs_are(what: &[u8], room: &[u64; LONGS], part: &[u8], rest: u64) -> bool {
+    let mut right = [rest; NUMBERS];
+    let listed = read(part, &mut right);
     let mut i = 0;
     while i < LONGS {
-        if !is_place(what, i, room[i], right_at(right, i, rest)) {
+        if !is_place(what, i, room[i], right[i]) {
             return false;
         }
         i += 1;
     }
-    all_listed(what, right.len(), LONGS)
+    all_read(listed <= LONGS)
 }
 
-pub fn words_are(what: &[u8], room: &[u32; WORDS], right: &[u64]) -> bool {
+pub fn words_are(what: &[u8], room: &[u32; WORDS], part: &[u8]) -> bool {
+    let mut right = [BEFORE; NUMBERS];
+    let listed = read(part, &mut right);
     let mut i = 0;
     while i < WORDS {
-        let place = right_at(right, i, BEFORE) % 4294967296;
-        if !is_place(what, i, wide_word(room[i]), place) {
+        if !is_place(what, i, wide_word(room[i]), right[i] % 4294967296) {
             return false;
         }
         i += 1;
     }
-    all_listed(what, right.len(), WORDS)
+    all_read(listed <= WORDS)
 }
 
-pub fn shorts_are(what: &[u8], room: &[u16; SHORTS], right: &[u64]) -> bool {
+pub fn shorts_are(what: &[u8], room: &[u16; SHORTS], part: &[u8]) -> bool {
+    let mut right = [BEFORE; NUMBERS];
+    let listed = read(part, &mut right);
     let mut i = 0;
     while i < SHORTS {
-        let place = right_at(right, i, BEFORE) % 65536;
-        if !is_place(what, i, wide_short(room[i]), place) {
+        if !is_place(what, i, wide_short(room[i]), right[i] % 65536) {
             return false;
         }
         i += 1;
     }
-    all_listed(what, right.len(), SHORTS)
-}
-
-pub fn bytes_are(what: &[u8], part: &[u8], right: &[u64]) -> bool {
-    let mut i = 0;
-    while i < part.len() {
-        if !is_place(what, i, wide_byte(part[i]), number_at(right, i)) {
-            return false;
-        }
-        i += 1;
-    }
-    all_listed(what, right.len(), part.len())
+    all_read(listed <= SHORTS)
 }
 
 fn wide_word(x: u32) -> u64 {
@@ -69,17 +65,6 @@ fn wide_word(x: u32) -> u64 {
 
 fn wide_short(x: u16) -> u64 {
     x as u64
-}
-
-fn wide_byte(x: u8) -> u64 {
-    x as u64
-}
-
-fn right_at(right: &[u64], i: usize, rest: u64) -> u64 {
-    if right.len() <= i {
-        return rest;
-    }
-    right[i]
 }
 
 fn is_place(what: &[u8], i: usize, got: u64, right: u64) -> bool {
@@ -94,9 +79,9 @@ fn is_place(what: &[u8], i: usize, got: u64, right: u64) -> bool {
     false
 }
 
-// Whether a room has a place for all that is listed.
-fn all_listed(what: &[u8], listed: usize, places: usize) -> bool {
-    listed <= places || wrong(what) || wrong(b"the room has not so many places")
+// Whether a part was understood, and has no more numbers than there are places.
+fn all_read(is: bool) -> bool {
+    is || wrong(b"a part has too many numbers or something that is none")
 }
 
 // Says what is wrong.

@@ -6,11 +6,11 @@ use Rattle.vectors.proofs.rooms.shorts_are.Statement.{statement}
 use Rattle.vectors.proofs.rooms.shorts_are.Tie as tie
 
 abbrev Inv-loop : tie.InvT-loop
-Inv-loop what room right i₀ i = Unit
+Inv-loop what room part right listed i₀ i = Unit
 
 abbrev μ-loop : tie.MeasureT-loop
-μ-loop what room right i₀ i = 4112 - i
+μ-loop what room part right listed i₀ i = 4112 - i
 
 pub shorts-are-spec : {M : Type 1} → statement M
 shorts-are-spec =
-    tie.close (four (four (four (tie.spec Inv-loop μ-loop) (search needs)) (search needs)) (search needs))
+    tie.close (four (four (four (tie.spec Inv-loop μ-loop) (search needs)) (search needs)) (search needs) (search needs) (search needs))

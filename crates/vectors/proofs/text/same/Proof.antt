@@ -3,8 +3,8 @@ use Prim.Native.Nat.{_-_}
 use lib.ListN.{length}
 use borrow.Author.Needs.{needs}
 use Rattle.rules.proofs.Four.{four}
-use Rattle.vectors.proofs.tokens.same.Statement.{statement}
-use Rattle.vectors.proofs.tokens.same.Tie as tie
+use Rattle.vectors.proofs.text.same.Statement.{statement}
+use Rattle.vectors.proofs.text.same.Tie as tie
 
 abbrev Inv-loop : tie.InvT-loop
 Inv-loop a b i₀ i = Unit

@@ -3,8 +3,8 @@ use Prim.Native.Nat.{_-_, _≤_}
 use lib.ListN.{length}
 use borrow.Author.Needs.{needs}
 use Rattle.rules.proofs.Four.{four}
-use Rattle.vectors.proofs.tokens.find.Statement.{statement}
-use Rattle.vectors.proofs.tokens.find.Tie as tie
+use Rattle.vectors.proofs.text.find.Statement.{statement}
+use Rattle.vectors.proofs.text.find.Tie as tie
 
 abbrev Inv-loop : tie.InvT-loop
 Inv-loop byte text start at₀ at = (start ≤ at) × (at ≤ length text)

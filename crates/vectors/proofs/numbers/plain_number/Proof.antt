@@ -1,16 +1,16 @@
--- Nothing is claimed of the loop but that it ends: the place rises to the end of the line.
+-- Nothing is claimed of the loop but that it ends: the place rises to the end of the part.
 use Prim.Native.Nat.{_-_}
 use lib.ListN.{length}
 use borrow.Author.Needs.{needs}
 use Rattle.rules.proofs.Four.{four}
-use Rattle.vectors.proofs.tokens.plain_number.Statement.{statement}
-use Rattle.vectors.proofs.tokens.plain_number.Tie as tie
+use Rattle.vectors.proofs.numbers.plain_number.Statement.{statement}
+use Rattle.vectors.proofs.numbers.plain_number.Tie as tie
 
 abbrev Inv-loop : tie.InvT-loop
-Inv-loop line start value₀ at₀ value at = Unit
+Inv-loop part start value₀ at₀ value at = Unit
 
 abbrev μ-loop : tie.MeasureT-loop
-μ-loop line start value₀ at₀ value at = length line - at
+μ-loop part start value₀ at₀ value at = length part - at
 
 pub plain-number-spec : {M : Type 1} → statement M
 plain-number-spec =

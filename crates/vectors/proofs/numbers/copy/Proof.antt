@@ -2,14 +2,14 @@
 use Prim.Native.Nat.{_-_}
 use borrow.Author.Needs.{needs}
 use Rattle.rules.proofs.Four.{four}
-use Rattle.vectors.proofs.line.copy.Statement.{statement}
-use Rattle.vectors.proofs.line.copy.Tie as tie
+use Rattle.vectors.proofs.numbers.copy.Statement.{statement}
+use Rattle.vectors.proofs.numbers.copy.Tie as tie
 
 abbrev Inv-loop : tie.InvT-loop
-Inv-loop numbers₀ from to size i₀ numbers i = Unit
+Inv-loop list₀ from to size i₀ list i = Unit
 
 abbrev μ-loop : tie.MeasureT-loop
-μ-loop numbers₀ from to size i₀ numbers i = size - i
+μ-loop list₀ from to size i₀ list i = size - i
 
 pub copy-spec : {M : Type 1} → statement M
 copy-spec =
