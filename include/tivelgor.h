@@ -14,12 +14,12 @@
  * Nothing is kept after a call, and there is no static data. So calls may run side by side in any number of threads,
  * even on the same records, as long as each has parts of its own to write to.
  *
- * A result below 2^63 is what was asked for. A refusal is 2^63 + 65,536 * place + number; the tablet's is 2^63 +
- * number, without the place. Where several apply, the first is given in the order in which they are listed below, and
- * at the lowest place (4.1). The numbers 1 to 6 refuse the network record (4.2), 11 to 17 the request record (4.3).
- * The place is the number of the bad link for 6, that of the bad node for 16 (0 source, 1 target, 2 + j rider j),
- * that of the bad weight for 17 (0 bus, 1 + j rider j), and 0 where none is named. A refusal leaves every part as it
- * was, except 24 (4.8).
+ * A result below 2^63 is what was asked for. A refusal is 2^63 + 65,536 * place + number (4.11); the tablet's is
+ * 2^63 + number, without the place (4.10). Where several apply, the first is given in the order in which they are
+ * listed below, and at the lowest place (4.1). The numbers 1 to 6 refuse the network record (4.2), 11 to 17 the
+ * request record (4.3). The place is the number of the bad link for 6, that of the bad node for 16 (0 source,
+ * 1 target, 2 + j rider j), that of the bad weight for 17 (0 bus, 1 + j rider j), and 0 where none is named. A refusal
+ * leaves every part as it was, except 24 (4.8).
  */
 #ifndef TIVELGOR_H
 #define TIVELGOR_H
