@@ -2,7 +2,7 @@
 //!
 //! It is Algorithm 2 of source document 000, started at the target and driven backwards, as the table is one of
 //! finishes, and run until its queue is empty, as all of the table is filled. A value is 4,096 × cost + steps, so that
-//! the table is the very one of document 01.
+//! the table is the very one of the rules (docs/RULES.md, 3.3).
 
 use std::cmp::Reverse;
 use std::collections::BinaryHeap;
