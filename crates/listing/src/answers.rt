@@ -116,6 +116,20 @@ fn step(x: u16) -> usize {
     x as usize
 }
 
+// Puts numbers into an answer from a place on, as many as it has places for.
+pub fn put(answer: &mut [usize; ANSWER], first: usize, numbers: &[usize]) {
+    let mut at = first;
+    let mut i = 0;
+    while at < ANSWER {
+        if numbers.len() <= i {
+            return;
+        }
+        answer[at] = numbers[i];
+        at += 1;
+        i += 1;
+    }
+}
+
 // Whether the answer for a town is the right one. Prints the first number of it that is wrong.
 pub fn passes(town: usize, got: &[usize; ANSWER], right: &[usize; ANSWER]) -> bool {
     let i = first_difference(got, right);

@@ -22,17 +22,3 @@ pub const RIDERS: usize = 6;
 pub const LINKS: usize = 20;
 
 pub const NUMBERS: usize = 68;
-
-// Puts numbers into a room from a place on, as many as it has places for.
-pub fn put(room: &mut [usize], first: usize, numbers: &[usize]) {
-    let mut at = first;
-    let mut i = 0;
-    while at < room.len() {
-        if numbers.len() <= i {
-            return;
-        }
-        room[at] = numbers[i];
-        at += 1;
-        i += 1;
-    }
-}
