@@ -17,8 +17,6 @@ pub const MARK: usize = 77;
 // all places of the three rooms.
 pub const FIRST_DISTANCE: usize = 3;
 
-pub const FIRST_FINISH: usize = 15;
-
 pub const FIRST_STEP: usize = 145;
 
 pub const ANSWER: usize = 161;

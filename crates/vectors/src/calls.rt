@@ -3,6 +3,7 @@ use crate::layout::*;
 use crate::numbers::NUMBERS;
 use crate::numbers::read;
 use crate::rooms::*;
+use crate::text::ends_before;
 use crate::text::part;
 use crate::text::same;
 use crate::text::word;
@@ -11,8 +12,16 @@ use desk::tivelgor_price;
 use desk::tivelgor_request;
 use desk::tivelgor_search;
 use desk::tivelgor_walk;
+use rules::FIRST_REFUSAL;
 use rules::Request;
 use tablet::tivelgor_tablet_price;
+
+struct Given {
+    first: usize,
+    second: usize,
+    third: usize,
+    fits: bool,
+}
 
 // Whether the call of a line gives the right answer and leaves the right rooms.
 pub fn is_right(line: &[u8], network: &[u8], request: &[u8], route: &[u8]) -> bool {
@@ -41,34 +50,51 @@ pub fn is_right(line: &[u8], network: &[u8], request: &[u8], route: &[u8]) -> bo
     if same(entry, b"search") {
         return searches(line, network, request);
     }
-    wrong(b"there is no such entry")
+    wrong(b"there is no such entry or record")
 }
 
-// Whether a line gives its entry so many numbers, and has no part behind those of so many rooms.
-fn has(line: &[u8], numbers: usize, rooms: usize) -> bool {
+// What a line gives its entry: so many numbers, of up to three. It fits where no part is behind those of so many rooms.
+fn given_to(line: &[u8], numbers: usize, rooms: usize) -> Given {
     let mut list = [0; NUMBERS];
-    let given = read(part(line, 0), &mut list);
-    given == numbers && part(line, 2 + rooms % NUMBERS).len() == 0
-        || wrong(b"not the numbers and parts of the entry")
+    let count = read(part(line, 0), &mut list);
+    Given {
+        first: list[0] as usize,
+        second: list[1] as usize,
+        third: list[2] as usize,
+        fits: count == numbers && ends_before(line, 2 + rooms % NUMBERS),
+    }
 }
 
-// Number i of those that an entry is given.
-fn given(line: &[u8], i: usize) -> usize {
-    let mut list = [0; NUMBERS];
-    read(part(line, 0), &mut list);
-    list[i % NUMBERS] as usize
+fn not_given() -> bool {
+    wrong(b"not the numbers, places and parts of the entry")
 }
 
+// Beside what the desk tells, reading gives n and m, or 0 for both where it refuses.
 fn reads_network(line: &[u8], network: &[u8]) -> bool {
-    has(line, 0, 0) && answer_is(tivelgor_network(network), part(line, 1))
+    let told = tivelgor_network(network);
+    let read = records::read_network(network);
+    let sizes = read.n as u64 % 65536 * 65536 + read.m as u64 % 65536;
+    if !given_to(line, 0, 0).fits {
+        return not_given();
+    }
+    answer_is(told, part(line, 1)) && is_number(b"n and m", sizes, value_told(told))
+}
+
+fn value_told(told: u64) -> u64 {
+    if FIRST_REFUSAL <= told {
+        return 0;
+    }
+    told
 }
 
 fn reads_request(line: &[u8], network: &[u8], request: &[u8]) -> bool {
     let read = records::read_request(network, request);
     let mut value = [0; LONGS];
     put_value(read.request, &mut value);
-    has(line, 0, 1)
-        && answer_is(tivelgor_request(network, request), part(line, 1))
+    if !given_to(line, 0, 1).fits {
+        return not_given();
+    }
+    answer_is(tivelgor_request(network, request), part(line, 1))
         && longs_are(b"value", &value, part(line, 2), 0)
 }
 
@@ -89,12 +115,14 @@ fn put_value(request: Request, value: &mut [u64; LONGS]) {
 }
 
 fn lends_link(line: &[u8], network: &[u8]) -> bool {
-    let link = records::link(network, given(line, 0));
+    let given = given_to(line, 1, 1);
+    let link = records::link(network, given.first);
     let mut bytes = [0; LONGS];
     put_bytes(link, &mut bytes);
-    has(line, 1, 1)
-        && answer_is(link.len() as u64, part(line, 1))
-        && longs_are(b"part", &bytes, part(line, 2), 0)
+    if !given.fits {
+        return not_given();
+    }
+    answer_is(link.len() as u64, part(line, 1)) && longs_are(b"part", &bytes, part(line, 2), 0)
 }
 
 fn put_bytes(link: &[u8], bytes: &mut [u64; LONGS]) {
@@ -113,27 +141,31 @@ fn wide_byte(x: u8) -> u64 {
 }
 
 fn finds_size(line: &[u8], network: &[u8]) -> bool {
-    has(line, 0, 0) && answer_is(records::network_size(network) as u64, part(line, 1))
+    let size = records::network_size(network);
+    if !given_to(line, 0, 0).fits {
+        return not_given();
+    }
+    answer_is(size as u64, part(line, 1))
 }
 
 fn walks(line: &[u8], network: &[u8]) -> bool {
     let mut distances = [BEFORE as u32; WORDS];
-    let places = given(line, 1);
-    if WORDS < places {
-        return wrong(b"no room has so many places");
+    let given = given_to(line, 2, 1);
+    let places = given.second;
+    if !given.fits || WORDS < places {
+        return not_given();
     }
-    let answer = tivelgor_walk(network, given(line, 0), &mut distances[0..places]);
-    has(line, 2, 1)
-        && answer_is(answer, part(line, 1))
-        && words_are(b"distances", &distances, part(line, 2))
+    let answer = tivelgor_walk(network, given.first, &mut distances[0..places]);
+    answer_is(answer, part(line, 1)) && words_are(b"distances", &distances, part(line, 2))
 }
 
 fn prices(line: &[u8], network: &[u8], request: &[u8], route: &[u8]) -> bool {
     let links = links_of(route);
     let mut meeting = [BEFORE as u16; SHORTS];
-    let places = given(line, 0);
-    if SHORTS < places {
-        return wrong(b"no room has so many places");
+    let given = given_to(line, 1, 1);
+    let places = given.first;
+    if !given.fits || SHORTS < places {
+        return not_given();
     }
     let answer = tivelgor_price(
         network,
@@ -141,29 +173,29 @@ fn prices(line: &[u8], network: &[u8], request: &[u8], route: &[u8]) -> bool {
         first(&links, route.len() / 2),
         &mut meeting[0..places],
     );
-    has(line, 1, 1)
-        && answer_is(answer, part(line, 1))
-        && shorts_are(b"meeting", &meeting, part(line, 2))
+    answer_is(answer, part(line, 1)) && shorts_are(b"meeting", &meeting, part(line, 2))
 }
 
 fn prices_on_tablet(line: &[u8], network: &[u8], request: &[u8], route: &[u8]) -> bool {
-    let bytes = given(line, 0);
-    if route.len() < bytes {
-        return wrong(b"the route has not so many bytes");
+    let given = given_to(line, 1, 0);
+    let bytes = given.first;
+    if !given.fits || route.len() < bytes {
+        return not_given();
     }
     let answer = tivelgor_tablet_price(network, request, &route[0..bytes]);
-    has(line, 1, 0) && answer_is(answer, part(line, 1))
+    answer_is(answer, part(line, 1))
 }
 
 fn searches(line: &[u8], network: &[u8], request: &[u8]) -> bool {
     let mut distances = [BEFORE as u32; WORDS];
     let mut table = [BEFORE; LONGS];
     let mut steps = [BEFORE as u16; SHORTS];
-    let distance_places = given(line, 0);
-    let table_places = given(line, 1);
-    let step_places = given(line, 2);
-    if WORDS < distance_places || LONGS < table_places || SHORTS < step_places {
-        return wrong(b"no room has so many places");
+    let given = given_to(line, 3, 3);
+    let distance_places = given.first;
+    let table_places = given.second;
+    let step_places = given.third;
+    if !given.fits || WORDS < distance_places || LONGS < table_places || SHORTS < step_places {
+        return not_given();
     }
     let answer = tivelgor_search(
         network,
@@ -172,8 +204,7 @@ fn searches(line: &[u8], network: &[u8], request: &[u8]) -> bool {
         &mut table[0..table_places],
         &mut steps[0..step_places],
     );
-    has(line, 3, 3)
-        && answer_is(answer, part(line, 1))
+    answer_is(answer, part(line, 1))
         && words_are(b"distances", &distances, part(line, 2))
         && longs_are(b"table", &table, part(line, 3), BEFORE)
         && shorts_are(b"steps", &steps, part(line, 4))

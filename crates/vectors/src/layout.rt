@@ -17,12 +17,6 @@ pub const RECORD: usize = 16402;
 
 pub const HANDED: usize = KINDS * RECORD;
 
-// Where a number goes in a record, and in how many bytes.
-struct Place {
-    at: usize,
-    width: usize,
-}
-
 // The kind that a word names, or KINDS.
 pub fn kind_named(word: &[u8]) -> usize {
     if same(word, b"Network") {
@@ -47,32 +41,30 @@ pub fn lent(handed: &[u8], kind: usize, size: usize) -> &[u8] {
     &handed[start..end]
 }
 
-// Lays out what a line lists, with 255 behind it: the links of a route, or the fields of a record behind the number of bytes
-// that are lent. Gives that number, which for a route is two for each link.
+// Lays out what a line lists, with 255 behind it: the links of a route, or the fields of a record behind the number of
+// bytes that are lent. Gives that number, or for a route two for each link; where the line is not understood, too many.
 pub fn lay_out(kind: usize, part: &[u8], handed: &mut [u8; HANDED]) -> usize {
     let mut list = [0; NUMBERS];
     let count = read(part, &mut list);
     clear(kind % KINDS * RECORD, handed);
+    if RECORD < count || !is_whole(kind, count) {
+        return HANDED;
+    }
     if kind == ROUTE {
         put_fields(kind, 0, count, &list, handed);
-    } else {
-        put_fields(kind, 1, count, &list, handed);
-    }
-    bytes_lent(kind, count, list[0])
-}
-
-// More than there can be, where a line is not understood.
-fn bytes_lent(kind: usize, count: usize, first: u64) -> usize {
-    if NUMBERS < count {
-        return HANDED;
-    }
-    if kind == ROUTE {
         return 2 * count;
     }
-    if count == 0 {
-        return HANDED;
+    put_fields(kind, 1, count, &list, handed);
+    list[0] as usize
+}
+
+// Whether so many numbers are the bytes lent, the head of a record and whole links or riders; or links of a route.
+fn is_whole(kind: usize, count: usize) -> bool {
+    match kind {
+        NETWORK => 5 <= count && count % 4 == 1,
+        REQUEST => 7 <= count && count % 2 == 1,
+        _ => true,
     }
-    first as usize
 }
 
 fn clear(start: usize, handed: &mut [u8; HANDED])
@@ -85,7 +77,7 @@ fn clear(start: usize, handed: &mut [u8; HANDED])
     }
 }
 
-// Puts the numbers of a list from the first on into the fields.
+// Puts the numbers of a list from the first on, one behind the other, each into the bytes of its field.
 fn put_fields(
     kind: usize,
     first: usize,
@@ -93,77 +85,56 @@ fn put_fields(
     list: &[u64; NUMBERS],
     handed: &mut [u8; HANDED],
 ) {
+    let mut at = 0;
     let mut i = first;
     while i < count {
-        if NUMBERS <= i {
+        if RECORD <= i {
             return;
         }
-        put(kind, field(kind, (i - first) % RECORD), list[i], handed);
+        let width = width(kind, i - first);
+        put(kind, at, width, list[i], handed);
+        at += width;
         i += 1;
     }
 }
 
-fn field(kind: usize, i: usize) -> Place
-    requires { ⌜ i ≤ 16402 ⌝ }
+// How many bytes field i of a record has, or link i of a route.
+fn width(kind: usize, i: usize) -> usize
+    ensures { λ r. ⌜ r ≤ 4 ⌝ }
 {
     match kind {
-        NETWORK => network_field(i),
-        REQUEST => request_field(i),
-        _ => Place {
-            at: 2 * i,
-            width: 2,
-        },
+        NETWORK => network_width(i),
+        REQUEST => request_width(i),
+        _ => 2,
     }
 }
 
-fn network_field(i: usize) -> Place
-    requires { ⌜ i ≤ 16402 ⌝ }
+fn network_width(i: usize) -> usize
+    ensures { λ r. ⌜ r ≤ 4 ⌝ }
 {
     match i {
-        0 => Place { at: 0, width: 1 },
-        1 => Place { at: 1, width: 4 },
-        _ => Place {
-            at: 2 * i + 1,
-            width: 2,
-        },
+        0 => 1,
+        1 => 4,
+        _ => 2,
     }
 }
 
-fn request_field(i: usize) -> Place
-    requires { ⌜ i ≤ 16402 ⌝ }
+fn request_width(i: usize) -> usize
+    ensures { λ r. ⌜ r ≤ 4 ⌝ }
 {
     match i {
-        0 => Place { at: 0, width: 1 },
-        1 => Place { at: 1, width: 2 },
-        2 => Place { at: 3, width: 2 },
-        3 => Place { at: 5, width: 2 },
-        4 => Place { at: 7, width: 1 },
-        5 => Place { at: 8, width: 1 },
-        _ => rider_field(i / 2, i % 2),
-    }
-}
-
-// The node and the weight of rider j are numbers 0 and 1 of three bytes, which begin at 3 (3+j).
-fn rider_field(three: usize, number: usize) -> Place
-    requires { ⌜ three ≤ 16402 ⌝ }
-{
-    match number {
-        0 => Place {
-            at: 3 * three,
-            width: 2,
-        },
-        _ => Place {
-            at: 3 * three + 2,
-            width: 1,
-        },
+        0 | 4 | 5 => 1,
+        1..=3 => 2,
+        _ => 2 - i % 2,
     }
 }
 
 // Puts the low bytes of a number into a field, the highest of them first.
-fn put(kind: usize, field: Place, number: u64, handed: &mut [u8; HANDED]) {
-    let at = field.at % HANDED;
+fn put(kind: usize, at: usize, width: usize, number: u64, handed: &mut [u8; HANDED])
+    requires { ⌜ at ≤ 65608 ⌝ }
+{
     let mut left = number;
-    let mut i = field.width % 8;
+    let mut i = width % 8;
     while 0 < i {
         i -= 1;
         put_byte(kind, at + i, left, handed);

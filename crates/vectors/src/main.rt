@@ -87,8 +87,7 @@ fn after_record(
     let size = lay_out(kind, part(line, 0), handed);
     sizes[kind % KINDS] = size;
     Progress {
-        right: size <= RECORD && part(line, 1).len() == 0
-            || wrong(b"nothing that can be handed over"),
+        right: size <= RECORD && ends_before(line, 1) || wrong(b"nothing that can be handed over"),
         calls: progress.calls,
         sizes,
     }

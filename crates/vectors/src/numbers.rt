@@ -5,7 +5,7 @@ ghost use Prim.Native.Nat.{_+_, _≤_};
 // How many numbers a part may have. A part that is not understood counts as one that has more.
 pub const NUMBERS: usize = 65552;
 
-const EVERY_BIT: u64 = 18446744073709551615;
+pub const EVERY_BIT: u64 = 18446744073709551615;
 
 // From here on a number takes no further digit.
 const LARGE: u64 = 1844674407370955161;
@@ -186,13 +186,20 @@ fn joined(sign: u8, first: Plain, second: Plain) -> Plain {
     let value = match sign {
         b':' => a % 4503599627370496 * 4096 + b % 4096,
         b',' => a % 65536 * 65536 + b % 65536,
-        b'@' => 9223372036854775808 + b % 65536 * 65536 + a % 65536,
-        _ => EVERY_BIT,
+        _ => 9223372036854775808 + b % 65536 * 65536 + a % 65536,
     };
     Plain {
         value,
         next: second.next,
-        known: first.known && second.known && value < EVERY_BIT,
+        known: first.known && second.known && can_join(sign, a, b),
+    }
+}
+
+fn can_join(sign: u8, a: u64, b: u64) -> bool {
+    match sign {
+        b':' => a < 4503599627370496 && b < 4096,
+        b',' | b'@' => a < 65536 && b < 65536,
+        _ => false,
     }
 }
 

@@ -53,6 +53,11 @@ pub fn part(line: &[u8], i: usize) -> &[u8] {
     &line[start..end]
 }
 
+// Whether a line has no part i.
+pub fn ends_before(line: &[u8], i: usize) -> bool {
+    part_start(line, i) == line.len()
+}
+
 fn part_start(line: &[u8], i: usize) -> usize
     ensures { λ r. ⌜ r ≤ length (now (line .entry)) ⌝ }
 {

@@ -6,10 +6,10 @@ use Rattle.vectors.proofs.layout.put.Statement.{statement}
 use Rattle.vectors.proofs.layout.put.Tie as tie
 
 abbrev Inv-loop : tie.InvT-loop
-Inv-loop kind number handed₀ at left₀ i₀ handed left i = i ≤ 8
+Inv-loop kind at width number handed₀ left₀ i₀ handed left i = i ≤ 8
 
 abbrev μ-loop : tie.MeasureT-loop
-μ-loop kind number handed₀ at left₀ i₀ handed left i = i
+μ-loop kind at width number handed₀ left₀ i₀ handed left i = i
 
 pub put-spec : {M : Type 1} → statement M
 put-spec =

@@ -13,4 +13,4 @@ abbrev μ-loop : tie.MeasureT-loop
 
 pub shorts-are-spec : {M : Type 1} → statement M
 shorts-are-spec =
-    tie.close (four (four (four (tie.spec Inv-loop μ-loop) (search needs)) (search needs)) (search needs) (search needs) (search needs))
+    tie.close (four (four (four (tie.spec Inv-loop μ-loop) (search needs)) (search needs)) (search needs) (search needs) (search needs) (search needs))
