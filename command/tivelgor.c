@@ -1,6 +1,6 @@
 /*
  * tivelgor: a command for the desks, which shows, plans, prices and walks with records in files. It reads, calls the
- * library and prints; the library decides. Numbers in brackets are paragraphs of docs/RULES.md.
+ * library and prints; the library decides. Numbers in brackets, as (1.2), are paragraphs of docs/RULES.md.
  */
 #include <errno.h>
 #include <signal.h>
@@ -12,7 +12,7 @@
 
 enum { status_refused = 1, status_failed = 2 };
 
-/* Where the fields of a network [1.2], of each of its links, and of a request [1.5] stand. */
+/* Where the fields of a network (1.2), of each of its links, and of a request (1.5) stand. */
 enum { nodes_at = 5, links_at = 9, link_bytes = 8 };
 enum { from_at = 0, to_at = 2, drive_at = 4, walk_at = 6 };
 enum { source_at = 3, target_at = 5, bus_weight_at = 7, rider_count_at = 8, riders_at = 9, rider_bytes = 3 };
@@ -27,7 +27,7 @@ struct record {
 
 static struct record network, request;
 
-/* What refusals mean [4.2 to 4.7]. Those of too small a room are not among them: every room here is the greatest. */
+/* What refusals mean (4.2 to 4.7). Those of too small a room are not among them: every room here is the greatest. */
 struct refusal {
     unsigned number;
     const char *meaning, *place;
@@ -49,9 +49,9 @@ static const struct refusal refusals[] = {
     {17, "weight of the request outside 1 to 100", "0 bus, 1 + j rider j"},
     {24, "no drive from source to target that all riders can walk to", NULL},
     {32, "route of more than 4,095 links", NULL},
-    {33, "link of the route that is not in the network", "its index in the route"},
-    {34, "link of the route closed to the bus", "its index in the route"},
-    {35, "link of the route that starts elsewhere than where the bus stands", "its index in the route"},
+    {33, "link of the route that is not in the network", "its index in the route, from 0"},
+    {34, "link of the route closed to the bus", "its index in the route, from 0"},
+    {35, "link of the route that starts elsewhere than where the bus stands", "its index in the route, from 0"},
     {36, "route that does not end at the target", NULL},
     {37, "rider who can walk to no position of the route", "the rider"},
     {41, "start of the walk that is not in the network", NULL},
@@ -220,7 +220,7 @@ static void plan(char **words)
         }
 }
 
-/* The node at a position of a route [2.5]. */
+/* The node at a position of a route (2.5). */
 static unsigned node_at(const uint16_t *route, unsigned position)
 {
     return position == 0 ? field(&request, source_at) : link_field(route[position - 1], to_at);
@@ -283,13 +283,13 @@ static const struct subcommand subcommands[] = {
      "A request is judged beside the largest network there can be, with 512 nodes and\n"
      "no link: all of it, except whether its nodes are in your network.\n",
      2, 0, show},
-    {"plan", "NETWORK REQUEST", "finds the right plan: of least cost, then of fewest steps",
+    {"plan", "NETWORK REQUEST", "finds the right plan: of least cost, then of fewest steps, then first by its steps",
      "Prints ok COST STEPS, and for each step drive LINK FROM TO or meet RIDER NODE\n"
      "DISTANCE, as the program plan does.\n",
      2, 0, plan},
     {"price", "NETWORK REQUEST LINK..", "prices a route: the links that are driven, in order",
-     "Prints the price and where each rider is met: at position 0, the source, or\n"
-     "position i, behind the i-th link. Without a LINK, the route is the empty one.\n",
+     "Prints the price and where each rider is met: at position 0, the source, at 1,\n"
+     "behind the first LINK, and so on. Without a LINK, the route is the empty one.\n",
      2, 1, price},
     {"walk", "NETWORK NODE", "finds the walking distance from a node to each node",
      "Prints a line for each node of the network, in order.\n",
@@ -305,8 +305,9 @@ static void help(void)
     for (each = subcommands; each->name != NULL; each++)
         printf("  tivelgor %s %s\n      %s\n", each->name, each->arguments, each->summary);
     printf("  tivelgor SUBCOMMAND --help\n      says more of it\n\n"
-           "FILE, NETWORK and REQUEST are files with a record each. One of them may be -,\n"
-           "which is standard input. A file of over 16 MiB is not read.\n\n"
+           "FILE, NETWORK and REQUEST are files with a record each, whose layout is in\n"
+           "docs/RULES.md. One of them may be -, which is standard input. A file of over\n"
+           "16 MiB is not read.\n\n"
            "The status is 0 with an answer on standard output; 1 with a refusal on standard\n"
            "error, its number, its place and what they mean; 2 where the call was wrong, a\n"
            "file could not be read, or the answer not be written.\n");

@@ -1,15 +1,16 @@
 /*
  * Tivelgor for C and C++ hosts: the tablet's entry, which is in libtablet.a, and the desk's, which are in libdesk.a.
- * The archives are for x86-64 Linux. From outside, libtablet.a needs memset alone, and libdesk.a memcpy and memset.
+ * The archives are for x86-64 Linux, and both may go into one program. From outside, libtablet.a needs memset alone,
+ * and libdesk.a memcpy and memset.
  *
  * docs/RULES.md has the rules; a number such as 4.2 is that of a paragraph there.
  *
  * Every function takes parts of memory as a pointer and a number of elements. No pointer may be NULL, not even with 0
  * elements, and each must be aligned for its elements. Beware of an empty std::vector, whose data() may be NULL: pass
- * the address of any object of the element type instead, and 0 elements. A part that is written may overlap no other;
- * parts that are only read may overlap each other. Nothing outside the parts is read or written, and there is no
- * input of any length or content that makes a call fail otherwise than by its result. A call takes under 16 KiB of
- * stack.
+ * the address of any object of the element type instead, and 0 elements, or give each vector a place more than it
+ * needs. A part that is written may overlap no other; parts that are only read may overlap each other. Nothing outside
+ * the parts is read or written, and there is no input of any length or content that makes a call fail otherwise than
+ * by its result. A call takes under 16 KiB of stack.
  *
  * Nothing is kept after a call, and there is no static data. So calls may run side by side in any number of threads,
  * even on the same records, as long as each has parts of its own to write to.
@@ -38,11 +39,17 @@
 #define TIVELGOR_NUMBER(answer) ((unsigned)((uint64_t)(answer) % 65536))
 #define TIVELGOR_PLACE(answer) ((uint64_t)(answer) % ((uint64_t)1 << 63) / 65536)
 
-/* n and m, of what tivelgor_network gave; both are unsigned. */
+/* The number of the search's refusal that means: there is no plan (4.4). */
+#define TIVELGOR_NO_PLAN 24
+
+/* n and m, of what tivelgor_network gave if that is no refusal; both are unsigned. */
 #define TIVELGOR_NODES(answer) ((unsigned)((uint64_t)(answer) / 65536))
 #define TIVELGOR_LINKS(answer) ((unsigned)((uint64_t)(answer) % 65536))
 
-/* The cost, a uint64_t, and the number of steps, an unsigned: of what tivelgor_search gave, or a place of its table. */
+/*
+ * The cost, a uint64_t, and the number of steps, an unsigned: of what tivelgor_search gave if that is no refusal, or of
+ * a place of its table that is not TIVELGOR_NO_FINISH.
+ */
 #define TIVELGOR_COST(answer) ((uint64_t)(answer) / 4096)
 #define TIVELGOR_STEPS(answer) ((unsigned)((uint64_t)(answer) % 4096))
 
@@ -67,8 +74,8 @@
 #define TIVELGOR_LONGEST_REQUEST 30
 
 /*
- * The places that a search in n nodes, at least 1, for l riders needs in its rooms (4.4), each as a size_t. Of steps it
- * is l + (l + 1) * (n - 1), written so that l is evaluated once.
+ * The places that a search in n nodes, at least 1, for l riders, at most 7, needs in its rooms (4.4), each as a size_t.
+ * Of steps it is l + (l + 1) * (n - 1), written so that l is evaluated once.
  */
 #define TIVELGOR_NEED_DISTANCES(n, l) ((size_t)(l) * (size_t)(n))
 #define TIVELGOR_NEED_TABLE(n, l) ((size_t)(n) << (l))

@@ -4,8 +4,8 @@ import ctypes
 import sys
 from pathlib import Path
 
-# As in include/tivelgor.h: a refusal is REFUSED + PLACE * place + number; tivelgor_network gives NODE * n + m, and
-# tivelgor_search COST * cost + steps.
+# What the macros of include/tivelgor.h know, which Python cannot read: a refusal is REFUSED + PLACE * place + number;
+# tivelgor_network gives NODE * n + m, and tivelgor_search COST * cost + steps.
 REFUSED = 1 << 63
 PLACE = 1 << 16
 NODE = 1 << 16

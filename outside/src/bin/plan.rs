@@ -1,5 +1,6 @@
 //! Compares what the program `plan` prints with the rules, byte for byte.
-//! Its arguments are the command that runs `plan`; `--compare-only` may come first.
+//! Its arguments are a folder with an example, `stdin` and what is printed for it, `stdout`, and the command that runs
+//! `plan`; `--compare-only` may come first.
 
 use outside::arguments::compare_only;
 use outside::plan_cases::input;
@@ -8,9 +9,10 @@ use outside::record::number;
 use outside::tally::Tally;
 use std::error::Error;
 use std::io::{ErrorKind, Write};
+use std::path::Path;
 use std::process::{self, ChildStdin, Command, Stdio};
 use std::time::Duration;
-use std::{env, io, thread};
+use std::{env, fs, io, thread};
 
 const CASES: u64 = 1_000;
 /// How often each outcome must have occurred.
@@ -20,24 +22,6 @@ const WORKERS: u64 = 2;
 /// Long enough for `plan` to start, under the emulator too, and to wait for more than the first piece.
 const FIRST_PAUSE: Duration = Duration::from_millis(120);
 const PAUSE: Duration = Duration::from_millis(10);
-
-/// Case A in the small town (5.1, 5.2): its two records, and what is printed.
-#[rustfmt::skip]
-const CASE_A: [&[u8]; 2] = [
-    &[
-        1, 0, 0, 0, 73, 0, 5, 0, 8,
-        0, 0, 0, 1, 0, 3, 0, 9,
-        0, 1, 0, 3, 0, 3, 0, 9,
-        0, 0, 0, 2, 0, 5, 255, 255,
-        0, 2, 0, 3, 0, 4, 0, 9,
-        0, 4, 0, 1, 255, 255, 0, 2,
-        0, 4, 0, 2, 0, 1, 0, 6,
-        0, 1, 0, 4, 255, 255, 0, 2,
-        0, 2, 0, 4, 0, 1, 0, 6,
-    ],
-    &[1, 0, 12, 0, 0, 0, 3, 1, 1, 0, 4, 1],
-];
-const CASE_A_PRINTED: &str = "ok 8 3\ndrive 0 0 1\nmeet 0 1 2\ndrive 1 1 3\n";
 
 /// Inputs that must have occurred as well.
 const INPUT_KINDS: [&str; 5] = [
@@ -50,8 +34,7 @@ const INPUT_KINDS: [&str; 5] = [
 
 fn main() {
     let arguments: Vec<String> = env::args().skip(1).collect();
-    let (compare_only, command) = compare_only(&arguments);
-    match compare(command, compare_only) {
+    match compare(&arguments) {
         Ok(()) => println!("outside: {CASES} runs of plan print what the rules say"),
         Err(error) => {
             println!("outside: {error}");
@@ -60,11 +43,18 @@ fn main() {
     }
 }
 
-fn compare(command: &[String], compare_only: bool) -> Result<(), String> {
-    if !compare_only && output(&CASE_A.concat()) != CASE_A_PRINTED {
-        return Err("the rules print something else for case A".into());
+fn compare(arguments: &[String]) -> Result<(), String> {
+    let (compare_only, arguments) = compare_only(arguments);
+    let (folder, command) = arguments.split_first().ok_or("no folder with an example was given")?;
+    let [example, printed] = ["stdin", "stdout"].map(|name| {
+        let file = Path::new(folder).join(name);
+        fs::read(&file).map_err(|error| format!("{}: {error}", file.display()))
+    });
+    let (example, printed) = (example?, printed?);
+    if !compare_only && output(&example).as_bytes() != printed {
+        return Err(format!("the rules print something else than {folder} for its example"));
     }
-    compare_input(command, vec![CASE_A.concat()]).map_err(|difference| format!("plan, case A: {difference}"))?;
+    compare_input(command, vec![example]).map_err(|difference| format!("plan, example: {difference}"))?;
     let tally = compare_cases(command)?;
     if compare_only {
         return Ok(());
