@@ -16,6 +16,10 @@ use rules::FIRST_REFUSAL;
 use rules::Request;
 use tablet::tivelgor_tablet_price;
 
+// What n counts for in the number that the desk tells.
+const SHORT_RANGE: u64 = 65536;
+
+// Up to three numbers that a line gives its entry, and whether these and the parts of the line are what the entry takes.
 struct Given {
     first: usize,
     second: usize,
@@ -53,7 +57,7 @@ pub fn is_right(line: &[u8], network: &[u8], request: &[u8], route: &[u8]) -> bo
     wrong(b"there is no such entry or record")
 }
 
-// What a line gives its entry: so many numbers, of up to three. It fits where no part is behind those of so many rooms.
+// What a line gives an entry that takes so many numbers and rooms.
 fn given_to(line: &[u8], numbers: usize, rooms: usize) -> Given {
     let mut list = [0; NUMBERS];
     let count = read(part(line, 0), &mut list);
@@ -73,7 +77,7 @@ fn not_given() -> bool {
 fn reads_network(line: &[u8], network: &[u8]) -> bool {
     let told = tivelgor_network(network);
     let read = records::read_network(network);
-    let sizes = read.n as u64 % 65536 * 65536 + read.m as u64 % 65536;
+    let sizes = SHORT_RANGE * (read.n as u64 % SHORT_RANGE) + read.m as u64 % SHORT_RANGE;
     if !given_to(line, 0, 0).fits {
         return not_given();
     }
