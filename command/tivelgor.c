@@ -45,7 +45,7 @@ static const struct refusal refusals[] = {
     {13, "request not as long as it states", NULL},
     {14, "request with more than 7 riders", NULL},
     {15, "request not as long as its riders need", NULL},
-    {16, "node of the request that is not in the network", "0 source, 1 target, 2 + j rider j"},
+    {16, "node of the request with too high a number", "0 source, 1 target, 2 + j rider j"},
     {17, "weight of the request outside 1 to 100", "0 bus, 1 + j rider j"},
     {24, "no drive from source to target that all riders can walk to", NULL},
     {32, "route of more than 4,095 links", NULL},

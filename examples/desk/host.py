@@ -11,8 +11,6 @@ PLACE = 1 << 16
 NODE = 1 << 16
 COST = 1 << 12
 
-NETWORK_LENGTH = 73
-
 desk = ctypes.CDLL(str(Path(sys.argv[1]).resolve()))
 desk.tivelgor_network.restype = ctypes.c_uint64
 desk.tivelgor_request.restype = ctypes.c_uint64
@@ -43,6 +41,6 @@ def plan(network, request):
     return answer // COST, steps[: answer % COST]
 
 
-records = (Path(__file__).parents[2] / "crates/plan/stdin").read_bytes()
-cost, steps = plan(records[:NETWORK_LENGTH], records[NETWORK_LENGTH:])
+town = Path(__file__).parents[1] / "town"
+cost, steps = plan((town / "town.network").read_bytes(), (town / "case-a.request").read_bytes())
 print("cost", cost, "steps", *steps)
