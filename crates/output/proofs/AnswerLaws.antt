@@ -14,8 +14,8 @@ use Rattle.rules.specs.Program.{line, okWord, refusedWord, stepLine, nodeAfter,
 use Rattle.rules.proofs.Clash.{clash}
 use Rattle.rules.proofs.Order.{accepted-front}
 use Rattle.rules.proofs.SoundRequestLaws.{records-sound, value-sound}
-use Rattle.rules.specs.Rooms.{Lent, distancePlaces, stepPlaces}
-use Rattle.output.specs.Text.{textPlaces, Put}
+use Rattle.rules.specs.Rooms.{Lent, Put, distancePlaces, stepPlaces}
+use Rattle.output.specs.Text.{textPlaces}
 use Rattle.output.specs.Answered.{Printable, Answered, Stepping}
 use Rattle.rules.proofs.PlanLaws.{all-below, few-sets}
 use Rattle.rules.specs.Limits.{mostNodes, mostRiders}
@@ -23,7 +23,7 @@ use Rattle.lines.specs.Text.{Reads, textOf, longestLine}
 use Rattle.lines.specs.declared.text.Line.{Line}
 use Rattle.lines.specs.Steps.{Takes, Rides}
 use Rattle.lines.proofs.StepLaws.{rides-takes, rides-on}
-use Rattle.output.proofs.PutLaws.{put-nothing, put-then}
+use Rattle.rules.proofs.PuttingLaws.{put-nothing, put-then}
 
 module _ {network distances : List ℕ} {start : ℕ} {steps : List ℕ} {at : ℕ} {before : List ℕ} where
   pub stepping-none : at ≤ length before → Rides network start steps → Stepping network distances start steps at before before at start 0

@@ -1,50 +1,14 @@
 -- Text written piece by piece.
 use Prim.Native.Nat.{ℕ, suc, _+_, _-_, _<_, _≤_}
 use native.Mathlib.Omega.{arith}
-use native.Mathlib.Numerals.{add-one}
-use mathlib.Core.Path.{_≡_, refl, sym, _∙_, ap}
-use mathlib.Core.List.{List, [], _∷_, _++_, append-nil, append-assoc}
-use lib.ListN.{length, getD, set, take, drop, length-set, length-append, length-drop, take-append-drop}
-use lib.Seq.{length-take-le, take-suc, take-suc-set, take-all, getD-drop, drop-set-lt, drop-drop}
-use Rattle.rules.specs.Rooms.{Written}
+use mathlib.Core.Path.{_≡_, _∙_, ap}
+use mathlib.Core.List.{List}
+use lib.ListN.{length, getD, set, take, drop, length-append, length-drop}
+use lib.Seq.{length-take-le, take-suc, take-all, getD-drop}
+use Rattle.rules.specs.Rooms.{Put}
+use Rattle.rules.proofs.PuttingLaws.{put-nothing, put-one, put-then, put-written}
 use Rattle.rules.specs.Program.{networkSize, networkPart, requestPart, mostInput}
-use Rattle.output.specs.Text.{textPlaces, Put, PutPlan, Printed, short, whole}
-
-pub put-nothing : {at : ℕ} (before : List ℕ) → at ≤ length before → Put at [] before before at
-put-nothing {at} before h = record { size = refl; ends = omega arith; within = h; says = sym (append-nil (take at before)); later = refl }
-
-pub put-byte : {at byte : ℕ} (before : List ℕ) → at < length before → Put at (byte ∷ []) before (set before at byte) (at + 1)
-put-byte {at} {byte} before h =
-    record {
-      size = length-set before at byte;
-      ends = refl;
-      within = omega arith;
-      says = rw add-one (take-suc-set before at byte h);
-      later = drop-set-lt (at + 1) before at byte (omega arith);
-    }
-
--- What is written behind a text makes it longer.
-pub put-then : {at mid end : ℕ} {text more before between after : List ℕ} → Put at text before between mid
-    → Put mid more between after end → Put at (text ++ more) before after end
-put-then {at} {mid} {end} {text} {more} {before} {between} {after} p q =
-    record {
-      size = q .size ∙ p .size;
-      ends = omega (arith, p .ends, q .ends, length-append text more);
-      within = omega (arith, q .within, p .size);
-      says = q .says ∙ ap (λ (front : List ℕ). front ++ more) (p .says) ∙ append-assoc (take at before) text more;
-      later =
-          q .later ∙ rw (q .ends) (sym (drop-drop (length more) mid between) ∙ ap (drop (length more)) (p .later) ∙ drop-drop
-          (length more) mid before);
-    }
-
--- Text at the start of a room.
-pub put-written : {end : ℕ} {text before after : List ℕ} → Put 0 text before after end → Written text before after
-put-written {end} {text} {before} {after} p =
-    sym (take-append-drop end after) ∙ ap (λ (front : List ℕ). front ++ drop end after) (p .says) ∙ ap
-    (λ (rest : List ℕ). text ++ rest) (p .later ∙ ap (λ (k : ℕ). drop k before) ends)
-  where
-    ends : end ≡ length text
-    ends = omega (arith, p .ends)
+use Rattle.output.specs.Text.{textPlaces, PutPlan, Printed, short, whole}
 
 -- The bytes from start up to i were written.
 pub record Copied (bytes : List ℕ) (start i at : ℕ) (before after : List ℕ) (end : ℕ) : Type 0 where
@@ -81,7 +45,7 @@ module _ {bytes : List ℕ} {start at : ℕ} {before : List ℕ} where
           to = omega arith;
           put =
               rw (one-more, take-suc (drop start bytes) k 0 (omega (arith, so .from, length-drop start bytes)), byte)
-              (put-then (so .put) (put-byte after room));
+              (put-then (so .put) (put-one after room));
         }
       where
         k : ℕ

@@ -7,10 +7,9 @@ use Rattle.rules.specs.Request.{source}
 use Rattle.rules.specs.Answers.{Outcome, gives}
 use Rattle.rules.specs.Program.{stepLines}
 use Rattle.rules.specs.Limits.{mostNodes, mostRiders}
-use Rattle.rules.specs.Rooms.{distancePlaces, stepPlaces}
+use Rattle.rules.specs.Rooms.{Put, distancePlaces, stepPlaces}
 use Rattle.lines.specs.Steps.{Rides}
 use Rattle.lines.specs.Text.{longestLine}
-use Rattle.output.specs.Text.{Put}
 
 -- A plan was found: its request has a source, its steps lie within their room, and the bus rides them from the source.
 pub record Printable (network request steps : List ℕ) (count : ℕ) : Type 0 where

@@ -1,24 +1,16 @@
 -- Text in a room.
 use Prim.Native.Nat.{ℕ, _+_, _*_, _<_, _≤_}
 use mathlib.Core.Path.{_≡_}
-use mathlib.Core.List.{List, _++_}
-use lib.ListN.{length, take, drop}
+use mathlib.Core.List.{List}
+use lib.ListN.{length}
 use Rattle.rules.specs.Program.{PlanText, ProgramText}
-use Rattle.rules.specs.Rooms.{Written, stepPlaces}
+use Rattle.rules.specs.Rooms.{Written, Put, stepPlaces}
 use Rattle.rules.specs.Limits.{mostNodes, mostRiders}
 use Rattle.lines.specs.Text.{longestLine}
 
 -- one line for the plan and one for each of its steps
 abbrev pub textPlaces : ℕ
 textPlaces = longestLine * (stepPlaces mostNodes mostRiders + 1)
-
--- The text was written from a place on, up to its end. All else is as it was.
-pub record Put (at : ℕ) (text before after : List ℕ) (end : ℕ) : Type 0 where
-  pub size : length after ≡ length before
-  pub ends : end ≡ at + length text
-  pub within : end ≤ length before
-  pub says : take end after ≡ take at before ++ text
-  pub later : drop end after ≡ drop end before
 
 -- The text of the program for two records was written at the start of the room.
 pub record PutPlan (network request before after : List ℕ) (end : ℕ) : Type 0 where

@@ -10,10 +10,10 @@ ghost use Rattle.rules.specs.Request.{source};
 ghost use Rattle.rules.specs.Answers.{plannedOutcome};
 ghost use Rattle.rules.specs.Program.{answerText, stepLines};
 ghost use Rattle.rules.specs.Limits.{mostNodes, mostRiders};
-ghost use Rattle.rules.specs.Rooms.{distancePlaces};
+ghost use Rattle.rules.specs.Rooms.{Put, distancePlaces};
 ghost use Rattle.lines.specs.Text.{Room, textOf, longestLine};
 ghost use Rattle.lines.specs.Steps.{Rides};
-ghost use Rattle.output.specs.Text.{textPlaces, Put};
+ghost use Rattle.output.specs.Text.{textPlaces};
 ghost use Rattle.output.specs.Answered.{Answered};
 
 // Writes the plan with its steps, or the refusal.

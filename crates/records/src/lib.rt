@@ -1,8 +1,8 @@
 // Readers of the two records of the rules. Every slice, of any length and content, gets its value or its refusal.
-mod common;
 pub mod inner;
 mod input;
 mod network;
+mod opening;
 mod request;
 
 pub use input::network_size;

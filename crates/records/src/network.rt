@@ -1,13 +1,13 @@
 // The network record: its reader, and a link's part of it.
-use crate::common::checked;
-use crate::common::either;
-use crate::common::opening_verdict;
-use crate::common::outside;
 use crate::inner;
+use crate::opening::opening_verdict;
 use rules::MOST_LINKS;
 use rules::MOST_NODES;
 use rules::NetworkRead;
 use rules::Verdict;
+use rules::checks::checked;
+use rules::checks::either;
+use rules::checks::outside;
 use rules::inner::link_start;
 ghost use Prim.Native.Nat.{_≤_};
 ghost use mathlib.Core.Path.{_≡_};

@@ -1,14 +1,14 @@
 // The request record: its reader.
-use crate::common::checked;
-use crate::common::opening_verdict;
-use crate::common::outside;
 use crate::inner;
 use crate::network::network_verdict;
+use crate::opening::opening_verdict;
 use rules::MOST_RIDERS;
 use rules::MOST_WEIGHT;
 use rules::Request;
 use rules::RequestRead;
 use rules::Verdict;
+use rules::checks::checked;
+use rules::checks::outside;
 use rules::inner::rider_start;
 ghost use Prim.Native.Nat.{_≤_};
 ghost use mathlib.Core.Path.{_≡_};

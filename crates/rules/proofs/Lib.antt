@@ -3,6 +3,7 @@
 pub mod Clash
 pub mod Four
 pub mod Order
+pub mod JudgingLaws
 pub mod TestLaws
 pub mod OpeningLaws
 pub mod SoundNetworkLaws
@@ -16,5 +17,6 @@ pub mod PriceLaws
 pub mod PlanLaws
 pub mod RoomLaws
 pub mod WritingLaws
+pub mod PuttingLaws
 pub mod AnswerLaws
 pub mod Keeping

@@ -1,9 +1,9 @@
--- What the search leaves behind.
+-- Rooms: what was kept and what was written, and what the search leaves behind.
 use Prim.Native.Nat.{ℕ, _+_, _-_, _*_, _^_, _<_, _≤_}
 use mathlib.Core.Path.{_≡_}
 use mathlib.Core.Logic.{_⊎_}
 use mathlib.Core.List.{List, _++_}
-use lib.ListN.{length, getD, drop}
+use lib.ListN.{length, getD, take, drop}
 use Rattle.rules.specs.Limits.{pack}
 use Rattle.rules.specs.Network.{nodeCount}
 use Rattle.rules.specs.Request.{riderCountOf}
@@ -25,6 +25,14 @@ pub record WrittenTo (values : ℕ → ℕ) (i : ℕ) (before after : List ℕ) 
   pub within : i ≤ length before
   pub kept : Kept i before after
   pub holds : (j : ℕ) → j < i → getD after j 0 ≡ values j
+
+-- Values were written from a place on, up to their end. All else is as it was.
+pub record Put (at : ℕ) (values before after : List ℕ) (end : ℕ) : Type 0 where
+  pub size : length after ≡ length before
+  pub ends : end ≡ at + length values
+  pub within : end ≤ length before
+  pub says : take end after ≡ take at before ++ values
+  pub later : drop end after ≡ drop end before
 
 -- how many places n nodes and l riders need of each room (4.4)
 abbrev pub distancePlaces : ℕ → ℕ → ℕ

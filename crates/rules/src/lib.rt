@@ -1,4 +1,5 @@
 // The types of the rules' values and answers, and the numbers that have a name. The rules are the definitions in specs/.
+pub mod checks;
 pub mod inner;
 
 ghost use mathlib.Core.Path.{_≡_};

@@ -3,7 +3,7 @@ use native.Mathlib.Omega.{arith}
 use borrow.Author.Needs.{needs}
 use Rattle.rules.specs.Checks.{firstOf}
 use Rattle.rules.specs.Request.{riderCount, riderNodeChecks, nodeChecks}
-use Rattle.records.proofs.CheckLaws.{Judged, judged-none, judged-more, judged-all}
+use Rattle.rules.proofs.JudgingLaws.{Judged, judged-none, judged-more, judged-all}
 use Rattle.records.proofs.request.nodes_verdict.Statement.{statement}
 use Rattle.records.proofs.request.nodes_verdict.Tie as tie
 

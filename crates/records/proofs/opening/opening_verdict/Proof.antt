@@ -3,8 +3,8 @@ use borrow.Author.Tests.{lt-ltb, le-ltb}
 use Rattle.rules.specs.Checks.{firstOf}
 use Rattle.rules.specs.Network.{openingChecks}
 use borrow.Author.Needs.{needs}
-use Rattle.records.proofs.common.opening_verdict.Statement.{statement}
-use Rattle.records.proofs.common.opening_verdict.Tie as tie
+use Rattle.records.proofs.opening.opening_verdict.Statement.{statement}
+use Rattle.records.proofs.opening.opening_verdict.Tie as tie
 
 returns : tie.Need-returns
 unfolding openingChecks firstOf

@@ -1,6 +1,6 @@
 use borrow.Author.Needs.{needs}
-use Rattle.records.proofs.common.checked.Statement.{statement}
-use Rattle.records.proofs.common.checked.Tie as tie
+use Rattle.rules.proofs.checks.checked.Statement.{statement}
+use Rattle.rules.proofs.checks.checked.Tie as tie
 
 returns : tie.Need-returns
 returns c = rw (c .before .if1 .taken) (c .refused .ensures)
