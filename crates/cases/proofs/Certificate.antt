@@ -7,10 +7,10 @@ use lib.Dec.{ltb}
 use lib.ListN.{length, getD}
 use Rattle.rules.specs.Limits.{closed, firstDrive, stepRange, packedStep}
 use Rattle.rules.specs.Checks.{firstOf, each}
-use Rattle.rules.specs.Numbers.{number}
+use Rattle.rules.specs.Numbers.{number, bytesOf, twosOf}
 use Rattle.rules.specs.Network.{openingChecks, sizeChecks, networkChecks, nodeCount, linkCount, from, to, drive, walk}
 use Rattle.rules.specs.Request.{countChecks, nodeChecks, weightChecks, requestChecks, requestVerdict, sevenPlaces, requestValue}
-use Rattle.rules.specs.Request.{busWeightOf, riderCountOf, riderNodeOf, riderWeightOf}
+use Rattle.rules.specs.Request.{busWeightOf, riderCountOf, riderNodeOf, riderWeightOf, ridersFrom}
 use Rattle.rules.specs.Walks.{noDistance}
 use Rattle.rules.specs.Routes.{nodeAt, sum}
 use Rattle.rules.specs.Plans.{without, allRiders}
@@ -181,13 +181,14 @@ accepts (Refused r) = false
 
 unfoldable pub recordsPass : Case → Bool
 unfolding firstOf each number openingChecks sizeChecks networkChecks countChecks nodeChecks weightChecks requestChecks requestVerdict
+    bytesOf twosOf ridersFrom
 recordsPass c = accepts (requestVerdict (c .network) (c .request))
 
 unfoldable pub certified : Case → Bool
-unfolding recordsPass number sevenPlaces requestValue allBelow anyBelow passes walkedWithin readsTest
+unfolding recordsPass number sevenPlaces requestValue allBelow anyBelow passes walkedWithin readsTest bytesOf twosOf ridersFrom
 certified c = recordsPass c && passes (caseTest c)
 
 -- the price of a route, by the distances of a case
 unfoldable pub pricedAt : Case → List ℕ → List ℕ → ℕ → Bool
-unfolding number sevenPlaces requestValue allBelow passes nodeAt sum routeTest driveSum
+unfolding number sevenPlaces requestValue allBelow passes nodeAt sum routeTest driveSum bytesOf twosOf ridersFrom
 pricedAt c route meetings price = passes (priceTest (c .network) (asked c) (rowDistance c) route meetings price)

@@ -4,8 +4,8 @@ use native.Mathlib.Omega.{arith}
 use mathlib.Core.Path.{_≡_, refl, ap}
 use mathlib.Core.List.{[], _∷_}
 use lib.ListN.{getD, take}
-use Rattle.rules.specs.Numbers.{number}
-use Rattle.rules.specs.Request.{requestValue}
+use Rattle.rules.specs.Numbers.{number, bytesOf, twosOf}
+use Rattle.rules.specs.Request.{requestValue, ridersFrom}
 use Rattle.rules.specs.Routes.{Price}
 use Rattle.rules.specs.Rooms.{HoldsFinish, Lent}
 use Rattle.rules.specs.Answers.{Outcome, gives, Searched}
@@ -20,15 +20,15 @@ use Rattle.cases.proofs.Tables.{town-holds}
 
 -- Three places of the table in case A: place R·n+v, with n = 5.
 pub place-5 : HoldsFinish town (requestValue caseA) 1 0 32771
-unfolding number requestValue
+unfolding number requestValue bytesOf twosOf ridersFrom
 place-5 = town-holds 0 .table 1 0 (omega arith) (omega arith)
 
 pub place-1 : HoldsFinish town (requestValue caseA) 0 1 12289
-unfolding number requestValue
+unfolding number requestValue bytesOf twosOf ridersFrom
 place-1 = town-holds 0 .table 0 1 (omega arith) (omega arith)
 
 pub place-3 : HoldsFinish town (requestValue caseA) 0 3 0
-unfolding number requestValue
+unfolding number requestValue bytesOf twosOf ridersFrom
 place-3 = town-holds 0 .table 0 3 (omega arith) (omega arith)
 
 -- So a search of case A leaves them there, beside its answer and its steps.

@@ -6,8 +6,8 @@ use mathlib.Core.List.{List, [], _∷_}
 use lib.ListN.{getD}
 use native.Mathlib.Omega.{arith}
 use Rattle.rules.specs.Limits.{closed}
-use Rattle.rules.specs.Numbers.{number}
-use Rattle.rules.specs.Request.{requestValue}
+use Rattle.rules.specs.Numbers.{number, bytesOf, twosOf}
+use Rattle.rules.specs.Request.{requestValue, ridersFrom}
 use Rattle.rules.specs.Routes.{nodeAt, Price}
 use Rattle.rules.specs.Plans.{RightPlan}
 use Rattle.rules.specs.Rooms.{Lent, Written}
@@ -64,7 +64,7 @@ module _ (p : Planner) where
 
   -- One that writes nothing, at case A: place 5 of the table stays 0.
   pub writes-nothing : replyAt p rowA (zeros rowA) .after ≡ zeros rowA → Keeps p rowA (zeros rowA) → ⊥
-  unfolding number requestValue
+  unfolding number requestValue bytesOf twosOf ridersFrom
   writes-nothing kept keeps =
       let right = searched-case (town-holds 0) (zeros-enough rowA) keeps .0 in
       let z : _≡_ {A = ℕ} 0 32771 = ap (λ (l : Lent). getD (l .table) 5 0) (sym kept ∙ right) in
@@ -83,7 +83,7 @@ weighs-rider-0-price = case-priced (town-holds 9) (0 ∷ 1 ∷ []) (1 ∷ 1 ∷ 
 -- So pricing that weighs rider 1 as rider 0, for 10, breaks its promise.
 pub one-weight-for-all : {before after : List ℕ}
     → PricedRoute (rowJ .network) (rowJ .request) (0 ∷ 1 ∷ []) before after (gives (10 ∷ [])) → ⊥
-unfolding number requestValue
+unfolding number requestValue bytesOf twosOf ridersFrom
 one-weight-for-all so = elim (so .pricing) [
   | refused r v e m ↦ clash (cc)
   | stranded j v h s l e m ↦ clash (cc)
@@ -128,14 +128,14 @@ stops-with-the-rider-price = case-priced (town-holds 1) (0 ∷ 1 ∷ []) (1 ∷ 
 -- No node twice (7.4): the right plans of cases B and J have one.
 pub forbids-repeated-nodes-B : {steps : List ℕ} {cost : ℕ} → RightPlan (rowB .network) (asked rowB) steps cost
     → NoNodeTwice rowB (drivesOf steps) → ⊥
-unfolding number nodeAt drivesOf
+unfolding number nodeAt drivesOf bytesOf twosOf
 forbids-repeated-nodes-B right once =
     let same = right-plan-unique right (town-holds 1 .result) .0 in
     (rw same at once) 1 3 (omega arith) (omega arith) refl
 
 pub forbids-repeated-nodes-J : {steps : List ℕ} {cost : ℕ} → RightPlan (rowJ .network) (asked rowJ) steps cost
     → NoNodeTwice rowJ (drivesOf steps) → ⊥
-unfolding number nodeAt drivesOf
+unfolding number nodeAt drivesOf bytesOf twosOf
 forbids-repeated-nodes-J right once =
     let same = right-plan-unique right (town-holds 9 .result) .0 in
     (rw same at once) 1 3 (omega arith) (omega arith) refl
@@ -151,7 +151,7 @@ no-way-beyond = fails none (own-holds 0) (λ e. clash (cc))
 
 pub never-drives-on : {steps : List ℕ} {cost : ℕ} → RightPlan (beyondTarget .network) (asked beyondTarget) steps cost
     → EndsAtTarget beyondTarget (drivesOf steps) → ⊥
-unfolding number requestValue nodeAt drivesOf
+unfolding number requestValue nodeAt drivesOf bytesOf twosOf ridersFrom
 never-drives-on right ends =
     let same = right-plan-unique right (own-holds 0 .result) .0 in
     (rw same at ends) 1 (omega arith) refl

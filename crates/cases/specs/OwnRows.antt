@@ -4,14 +4,15 @@ use mathlib.Core.List.{List, [], _∷_, _++_}
 use Rattle.rules.specs.Limits.{closed, pack}
 use Rattle.rules.specs.Walks.{noDistance}
 use Rattle.rules.specs.Rooms.{noFinish}
-use Rattle.rules.specs.Town.{link, networkOfLinks, request, rider}
+use Rattle.rules.specs.Network.{networkRecord}
+use Rattle.rules.specs.Town.{link, request, rider}
 use Rattle.cases.specs.Cases.{plan, none, Case}
 
 -- The rider can be met only by driving on from the target and coming back.
 abbrev pub beyondTarget : Case
 beyondTarget =
     record {
-      network = networkOfLinks 3 (link 0 1 1 closed ++ link 1 2 1 closed ++ link 2 1 1 closed);
+      network = networkRecord 3 (link 0 1 1 closed ++ link 1 2 1 closed ++ link 2 1 1 closed);
       request = request 0 1 1 (rider 2 1);
       result = plan 3 (8 ∷ 9 ∷ 0 ∷ 10 ∷ []);
       distances = noDistance ∷ noDistance ∷ 0 ∷ [];
@@ -22,7 +23,7 @@ beyondTarget =
 abbrev pub twoLinks : Case
 twoLinks =
     record {
-      network = networkOfLinks 2 (link 0 1 1 1 ++ link 0 1 1 1);
+      network = networkRecord 2 (link 0 1 1 1 ++ link 0 1 1 1);
       request = request 0 1 1 [];
       result = plan 1 (8 ∷ []);
       distances = [];
@@ -33,7 +34,7 @@ twoLinks =
 abbrev pub nearTwice : Case
 nearTwice =
     record {
-      network = networkOfLinks 3 (link 0 1 1 closed ++ link 2 0 closed 1 ++ link 2 1 closed 1);
+      network = networkRecord 3 (link 0 1 1 closed ++ link 2 0 closed 1 ++ link 2 1 closed 1);
       request = request 0 1 1 (rider 2 1);
       result = plan 2 (0 ∷ 8 ∷ []);
       distances = 1 ∷ 1 ∷ 0 ∷ [];
@@ -44,7 +45,7 @@ nearTwice =
 abbrev pub oneForTwo : Case
 oneForTwo =
     record {
-      network = networkOfLinks 3 (link 0 1 1 1 ++ link 1 2 1 1 ++ link 0 2 2 2);
+      network = networkRecord 3 (link 0 1 1 1 ++ link 1 2 1 1 ++ link 0 2 2 2);
       request = request 0 2 1 [];
       result = plan 2 (10 ∷ []);
       distances = [];
@@ -55,7 +56,7 @@ oneForTwo =
 abbrev pub offTheRoad : Case
 offTheRoad =
     record {
-      network = networkOfLinks 3 (link 0 1 1 closed ++ link 2 1 closed 1);
+      network = networkRecord 3 (link 0 1 1 closed ++ link 2 1 closed 1);
       request = request 0 1 1 (rider 2 1);
       result = plan 2 (8 ∷ 0 ∷ []);
       distances = noDistance ∷ 1 ∷ 0 ∷ [];
@@ -66,7 +67,7 @@ offTheRoad =
 abbrev pub wideCosts : Case
 wideCosts =
     record {
-      network = networkOfLinks 3 (link 0 1 50000 closed ++ link 0 2 20000 closed ++ link 2 1 20000 closed);
+      network = networkRecord 3 (link 0 1 50000 closed ++ link 0 2 20000 closed ++ link 2 1 20000 closed);
       request = request 0 1 2 [];
       result = plan 80000 (9 ∷ 10 ∷ []);
       distances = [];
@@ -77,7 +78,7 @@ wideCosts =
 abbrev pub closedWalk : Case
 closedWalk =
     record {
-      network = networkOfLinks 2 (link 1 0 closed closed);
+      network = networkRecord 2 (link 1 0 closed closed);
       request = request 0 0 1 (rider 1 1);
       result = none;
       distances = noDistance ∷ 0 ∷ [];
@@ -89,7 +90,7 @@ abbrev pub wallOpened : Case
 wallOpened =
     record {
       network =
-          networkOfLinks 5
+          networkRecord 5
           (link 0 1 3 9
           ++ link 1 3 3 9
           ++ link 0 2 5 closed
@@ -108,7 +109,7 @@ wallOpened =
 abbrev pub freeCircle : Case
 freeCircle =
     record {
-      network = networkOfLinks 3 (link 0 1 0 0 ++ link 1 0 0 0 ++ link 1 2 0 closed);
+      network = networkRecord 3 (link 0 1 0 0 ++ link 1 0 0 0 ++ link 1 2 0 closed);
       request = request 0 2 1 (rider 1 1);
       result = plan 0 (0 ∷ 8 ∷ 10 ∷ []);
       distances = 0 ∷ 0 ∷ noDistance ∷ [];
@@ -119,7 +120,7 @@ freeCircle =
 abbrev pub selfLink : Case
 selfLink =
     record {
-      network = networkOfLinks 2 (link 0 0 0 5 ++ link 0 1 1 closed);
+      network = networkRecord 2 (link 0 0 0 5 ++ link 0 1 1 closed);
       request = request 0 1 1 (rider 0 1);
       result = plan 1 (0 ∷ 9 ∷ []);
       distances = 0 ∷ noDistance ∷ [];
@@ -131,7 +132,7 @@ selfLink =
 abbrev pub cheaperSecond : Case
 cheaperSecond =
     record {
-      network = networkOfLinks 3 (link 0 1 5 closed ++ link 0 1 2 closed ++ link 2 1 closed 7 ++ link 2 1 closed 4);
+      network = networkRecord 3 (link 0 1 5 closed ++ link 0 1 2 closed ++ link 2 1 closed 7 ++ link 2 1 closed 4);
       request = request 0 1 1 (rider 2 1);
       result = plan 6 (9 ∷ 0 ∷ []);
       distances = noDistance ∷ 4 ∷ 0 ∷ [];

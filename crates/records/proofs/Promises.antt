@@ -7,9 +7,10 @@ use mathlib.Core.List.{List, [], _∷_}
 use lib.ListN.{getD, set}
 use denote.Ref.{RefT}
 use Rattle.rules.specs.Checks.{refuse, firstOf, each}
-use Rattle.rules.specs.Numbers.{number}
+use Rattle.rules.specs.Numbers.{number, bytesOf, twosOf}
 use Rattle.rules.specs.Network.{openingChecks, sizeChecks, networkChecks, networkVerdict, networkOf, LinkPart}
 use Rattle.rules.specs.Request.{countChecks, nodeChecks, weightChecks, requestChecks, requestVerdict, sevenPlaces, requestValue, noRequest, requestOf}
+use Rattle.rules.specs.Request.{ridersFrom}
 use Rattle.rules.specs.Answers.{refuses, verdictOutcome}
 use Rattle.rules.specs.Town.{town, request, rider, caseA}
 use Rattle.rules.specs.declared.NetworkRead.{NetworkRead}
@@ -46,7 +47,7 @@ readA stray =
 
 pub request-read : requestOf town caseA ≡ readA 0
 unfolding networkChecks openingChecks sizeChecks number firstOf each
-    requestOf requestVerdict requestChecks countChecks nodeChecks weightChecks requestValue sevenPlaces
+    requestOf requestVerdict requestChecks countChecks nodeChecks weightChecks requestValue sevenPlaces bytesOf twosOf ridersFrom
 request-read = refl
 
 refuses-same : {number other place elsewhere : ℕ} → refuses number place ≡ refuses other elsewhere → (number ≡ other) × (place ≡ elsewhere)
@@ -57,7 +58,7 @@ abbrev pub badTown : List ℕ
 badTown = set (set town 20 9) 36 9
 
 bad-town : networkOf badTown ≡ record { verdict = Refused (refuse 6 1); n = 0; m = 0 }
-unfolding networkOf networkVerdict networkChecks openingChecks sizeChecks number firstOf each
+unfolding networkOf networkVerdict networkChecks openingChecks sizeChecks number firstOf each bytesOf twosOf
 bad-town = refl
 
 pub not-the-highest-link : record { verdict = Refused (refuse 6 3); n = 0; m = 0 } ≡ networkOf badTown → ⊥
@@ -76,7 +77,7 @@ badRequest = request 0 3 101 (rider 9 1)
 
 bad-request : requestOf town badRequest ≡ record { verdict = Refused (refuse 16 2); request = noRequest }
 unfolding networkChecks openingChecks sizeChecks number firstOf each
-    requestOf requestVerdict requestChecks countChecks nodeChecks weightChecks noRequest sevenPlaces
+    requestOf requestVerdict requestChecks countChecks nodeChecks weightChecks noRequest sevenPlaces bytesOf twosOf ridersFrom
 bad-request = refl
 
 pub not-the-weight-first : record { verdict = Refused (refuse 17 0); request = noRequest } ≡ requestOf town badRequest → ⊥
@@ -98,5 +99,5 @@ module _ (block place name : ℕ) where
   whole = record { ptr = (block, place); name = name; now = town }
 
   pub not-the-next-link : (part : RefT (List ℕ)) → LinkPart whole 2 part → part .ptr .1 ≡ place + 33 → ⊥
-  unfolding networkOf networkVerdict networkChecks openingChecks sizeChecks number firstOf each
+  unfolding networkOf networkVerdict networkChecks openingChecks sizeChecks number firstOf each bytesOf twosOf
   not-the-next-link part so e = omega (arith, so .place)

@@ -21,6 +21,9 @@ use Rattle.rules.proofs.PriceLaws.{price-unique}
 use Rattle.rules.proofs.PlanLaws.{right-plan-unique}
 use Rattle.rules.proofs.RoomLaws.{kept-unique, distances-unique, table-unique, lent-same}
 use Rattle.rules.specs.Rooms.{Lent}
+use Rattle.rules.specs.Writing.{recordedOutcome, Writing}
+use Rattle.rules.specs.declared.Recorded.{Recorded}
+use Rattle.rules.specs.declared.Recorded.the-variants.{Length, Refused as NotRecorded}
 
 -- A link's part of the network record is one place in memory with one content.
 pub part-unique : {whole a b : RefT (List ℕ)} {start size : ℕ} → Part whole start size a → Part whole start size b
@@ -51,6 +54,12 @@ planned-told-apart (Found c n) (Found d m) e = cc
 planned-told-apart (Found c n) (NotPlanned s) e = cc
 planned-told-apart (NotPlanned r) (Found d m) e = cc
 planned-told-apart (NotPlanned r) (NotPlanned s) e = ap NotPlanned (refusal-same (cc) (cc))
+
+pub recorded-told-apart : (x y : Recorded) → recordedOutcome x ≡ recordedOutcome y → x ≡ y
+recorded-told-apart (Length m) (Length n) e = cc
+recorded-told-apart (Length m) (NotRecorded s) e = cc
+recorded-told-apart (NotRecorded r) (Length n) e = cc
+recorded-told-apart (NotRecorded r) (NotRecorded s) e = ap NotRecorded (refusal-same (cc) (cc))
 
 -- The walking entry has one answer and leaves one content.
 walking-unique : (verdict : Verdict) {network : List ℕ} {start : ℕ} {before a b : List ℕ} {x y : Outcome}
@@ -107,6 +116,11 @@ pub searched-unique : {network : List ℕ} (request : List ℕ) {before a b : Le
     → Searched network request before a x → Searched network request before b y → (a ≡ b) × (x ≡ y)
 searched-unique request s t = searching-unique s t
 
+-- What writes a record has one answer and leaves one content.
+pub writing-unique : {verdict : Verdict} {bytes before a b : List ℕ} {x y : Outcome} → Writing verdict bytes before a x
+    → Writing verdict bytes before b y → (a ≡ b) × (x ≡ y)
+writing-unique w z = (w .written ∙ sym (z .written), w .answers ∙ sym (z .answers))
+
 -- So the results themselves agree, and not their outcomes alone.
 pub walk-settled : {network : List ℕ} {start : ℕ} {before a b : List ℕ} {x y : Verdict}
     → Walked network start before a (verdictOutcome x)
@@ -127,3 +141,9 @@ pub search-settled : {network : List ℕ} (request : List ℕ) {before a b : Len
 search-settled request {x = x} {y} s t =
     let (rooms, answer) = searched-unique request s t in
     (rooms, planned-told-apart x y answer)
+
+pub write-settled : {verdict : Verdict} {bytes before a b : List ℕ} {x y : Recorded}
+    → Writing verdict bytes before a (recordedOutcome x)
+    → Writing verdict bytes before b (recordedOutcome y)
+    → (a ≡ b) × (x ≡ y)
+write-settled {x = x} {y} w z = let (room, answer) = writing-unique w z in (room, recorded-told-apart x y answer)

@@ -8,6 +8,7 @@ use Rattle.rules.specs.declared.Request.{Request}
 use Rattle.rules.specs.declared.Verdict.{Verdict}
 use Rattle.rules.specs.declared.Verdict.the-variants.{Accepted, Refused as NotAccepted}
 use Rattle.rules.specs.Rooms.{Lent}
+use Rattle.rules.specs.Writing.{Writing}
 
 module _ {number place : ℕ} where
   walking-keeps : (verdict : Verdict) {network : List ℕ} {start : ℕ} {before after : List ℕ}
@@ -28,6 +29,11 @@ module _ {number place : ℕ} where
   pub price-keeps : {network request route before after : List ℕ}
       → PricedRoute network request route before after (refuses number place) → after ≡ before
   price-keeps p = let none = no-meetings (p .pricing) in rw none at (p .written)
+
+  pub write-keeps : (verdict : Verdict) {bytes before after : List ℕ} → Writing verdict bytes before after (refuses number place)
+      → after ≡ before
+  write-keeps Accepted w = let z = w .answers in cc
+  write-keeps (NotAccepted r) w = w .written
 
   -- Every refusal of the search but 24 keeps all three rooms, and 24 the steps.
   pub search-keeps : {verdict : Verdict} {network : List ℕ} {q : Request} {before after : Lent}

@@ -1,5 +1,5 @@
 -- Laws of the definitions: how checks run in their order, what acceptance gives, how large refusals are, that a promise has one
--- result at most, and that a refusal keeps the rooms.
+-- result at most, that a refusal keeps the rooms, and that records are read as they were written.
 pub mod Clash
 pub mod Four
 pub mod Order
@@ -16,6 +16,11 @@ pub mod RouteLaws
 pub mod PriceLaws
 pub mod PlanLaws
 pub mod RoomLaws
+pub mod BytesLaws
+pub mod NetworkWritingLaws
+pub mod RequestWritingLaws
+pub mod WriterLaws
+pub mod RoundTrips
 pub mod WritingLaws
 pub mod PuttingLaws
 pub mod AnswerLaws

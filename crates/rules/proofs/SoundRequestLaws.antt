@@ -2,9 +2,11 @@
 use Prim.Native.Nat.{ℕ, zero, suc, _≤_, _<_}
 use native.Mathlib.Omega.{arith}
 use native.Mathlib.Nat.{zero-add}
-use mathlib.Core.Path.{_≡_, _∙_}
+use mathlib.Core.Path.{_≡_, refl, _∙_}
+use mathlib.Core.Bool.{cond}
 use mathlib.Core.List.{List}
 use lib.ListN.{length, getD}
+use lib.Dec.{ltb}
 use borrow.Author.Tests.{ltb-false, leb-false, le-ltb, lt-ltb, lt-leb, eq-eqb}
 use Rattle.rules.specs.Checks.{firstOf}
 use Rattle.rules.specs.Limits.{mostRiders, mostWeight}
@@ -131,17 +133,23 @@ unfolding requestVerdict networkVerdict
 sound-records network s a b =
     front-passed (networkChecks network) _ (sound-network network a) ∙ sound-request (nodeCount network) s b
 
--- a place in use holds its rider's number
-place-used : (value : ℕ → ℕ) (used j : ℕ) → j < mostRiders → j < used → getD (sevenPlaces value used) j 0 ≡ value j
+-- place j of seven: a rider's number where it is used
+place-at : (value : ℕ → ℕ) (used j : ℕ) → j < mostRiders → getD (sevenPlaces value used) j 0 ≡ cond (ltb j used) (value j) 0
 unfolding sevenPlaces
-place-used value used zero h g = simp (lt-ltb _ _ g)
-place-used value used (suc zero) h g = simp (lt-ltb _ _ g)
-place-used value used (suc (suc zero)) h g = simp (lt-ltb _ _ g)
-place-used value used (suc (suc (suc zero))) h g = simp (lt-ltb _ _ g)
-place-used value used (suc (suc (suc (suc zero)))) h g = simp (lt-ltb _ _ g)
-place-used value used (suc (suc (suc (suc (suc zero))))) h g = simp (lt-ltb _ _ g)
-place-used value used (suc (suc (suc (suc (suc (suc zero)))))) h g = simp (lt-ltb _ _ g)
-place-used value used (suc (suc (suc (suc (suc (suc (suc j))))))) h g = absurd (omega arith)
+place-at value used zero h = refl
+place-at value used (suc zero) h = refl
+place-at value used (suc (suc zero)) h = refl
+place-at value used (suc (suc (suc zero))) h = refl
+place-at value used (suc (suc (suc (suc zero)))) h = refl
+place-at value used (suc (suc (suc (suc (suc zero))))) h = refl
+place-at value used (suc (suc (suc (suc (suc (suc zero)))))) h = refl
+place-at value used (suc (suc (suc (suc (suc (suc (suc j))))))) h = absurd (omega arith)
+
+pub place-used : (value : ℕ → ℕ) (used j : ℕ) → j < mostRiders → j < used → getD (sevenPlaces value used) j 0 ≡ value j
+place-used value used j h g = place-at value used j h ∙ simp (lt-ltb _ _ g)
+
+pub place-unused : (value : ℕ → ℕ) (used j : ℕ) → j < mostRiders → used ≤ j → getD (sevenPlaces value used) j 0 ≡ 0
+place-unused value used j h g = place-at value used j h ∙ simp (le-ltb _ _ g)
 
 -- the value of a sound request record is sound
 pub value-sound : (n : ℕ) (s : List ℕ) → SoundRequest n s → SoundValue n (requestValue s)

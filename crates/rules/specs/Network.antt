@@ -1,6 +1,6 @@
 -- The network record (1.2): a version byte, the record's length in four bytes, n and m in two each; then for each link, in two
 -- bytes each, where it starts, where it ends, and what it costs to drive and to walk.
-use Prim.Native.Nat.{ℕ, _+_, _*_, _≤_, _<_}
+use Prim.Native.Nat.{ℕ, zero, suc, _+_, _*_, _/_, _≤_, _<_}
 use mathlib.Core.Bool.{Bool, _||_, cond}
 use mathlib.Core.Path.{_≡_}
 use mathlib.Core.List.{List, [], _∷_, _++_}
@@ -9,7 +9,7 @@ use lib.Dec.{ltb, leb}
 use denote.Ref.{RefT}
 use Rattle.rules.specs.Checks.{Check, check, firstOf, each, differ, outside, beside}
 use Rattle.rules.specs.Limits.{mostNodes, mostLinks}
-use Rattle.rules.specs.Numbers.{byte, two, number}
+use Rattle.rules.specs.Numbers.{byte, two, number, bytesOf, twosOf}
 use Rattle.rules.specs.declared.Verdict.{Verdict}
 use Rattle.rules.specs.declared.NetworkRead.{NetworkRead}
 
@@ -27,6 +27,10 @@ openingChecks lowest latest size s =
     ∷ check (lowest + 1) 0 (outside 1 latest (versionOf s))
     ∷ check (lowest + 2) 0 (differ (statedLength size s) (length s))
     ∷ []
+
+-- The bytes of an opening: a version, and the length of a record of so many bytes.
+abbrev pub openingBytes : ℕ → ℕ → ℕ → List ℕ
+openingBytes version size stated = bytesOf 1 version ++ bytesOf size stated
 
 abbrev pub nodeCount : List ℕ → ℕ
 nodeCount s = two s 5
@@ -48,6 +52,25 @@ drive s k = two s (linkStart k + 4)
 
 abbrev pub walk : List ℕ → ℕ → ℕ
 walk s k = two s (linkStart k + 6)
+
+-- The numbers of links as a writer is handed them (1.11): the four of each of so many links, from link k on; and those of all links.
+unfoldable pub numbersFrom : List ℕ → ℕ → ℕ → List ℕ
+numbersFrom s zero k = []
+numbersFrom s (suc count) k = from s k ∷ to s k ∷ drive s k ∷ walk s k ∷ numbersFrom s count (suc k)
+
+abbrev pub linkNumbers : List ℕ → List ℕ
+linkNumbers s = numbersFrom s (linkCount s) 0
+
+-- how many links so many numbers make
+abbrev pub givenLinks : List ℕ → ℕ
+givenLinks numbers = length numbers / 4
+
+-- The record of n nodes and such numbers: its head, and the numbers behind it.
+abbrev pub networkHead : ℕ → ℕ → List ℕ
+networkHead n m = openingBytes 1 4 (linkStart m) ++ bytesOf 2 n ++ bytesOf 2 m
+
+abbrev pub networkRecord : ℕ → List ℕ → List ℕ
+networkRecord n numbers = networkHead n (givenLinks numbers) ++ twosOf numbers
 
 -- Refusals 4 and 5 (4.2): the limits of n and m, and a length that is no whole number of links or not m of them.
 unfoldable pub sizeChecks : List ℕ → List Check

@@ -1,6 +1,6 @@
 -- The request record (1.5): a version byte, the record's length in two bytes, source and target in two each, a byte for the bus
 -- weight and one for the rider count; then for each rider the node in two bytes and a byte for the weight.
-use Prim.Native.Nat.{ℕ, _+_, _*_, _≤_, _<_}
+use Prim.Native.Nat.{ℕ, zero, suc, _+_, _*_, _≤_, _<_}
 use mathlib.Core.Path.{_≡_}
 use mathlib.Core.Bool.{cond}
 use mathlib.Core.List.{List, [], _∷_, _++_, map}
@@ -8,8 +8,8 @@ use lib.ListN.{length, getD}
 use lib.Dec.{ltb, leb}
 use Rattle.rules.specs.Checks.{Check, check, firstOf, each, differ, outside, beside}
 use Rattle.rules.specs.Limits.{mostRiders, mostWeight}
-use Rattle.rules.specs.Numbers.{byte, two}
-use Rattle.rules.specs.Network.{versionOf, statedLength, openingChecks, nodeCount, networkChecks}
+use Rattle.rules.specs.Numbers.{byte, two, bytesOf}
+use Rattle.rules.specs.Network.{versionOf, statedLength, openingChecks, openingBytes, nodeCount, networkChecks}
 use Rattle.rules.specs.declared.Verdict.{Verdict}
 use Rattle.rules.specs.declared.Request.{Request}
 use Rattle.rules.specs.declared.RequestRead.{RequestRead}
@@ -110,6 +110,27 @@ riderNodeOf q j = getD (q .nodes) j 0
 
 abbrev pub riderWeightOf : Request → ℕ → ℕ
 riderWeightOf q j = getD (q .weights) j 0
+
+-- The record of such a value (1.11): its head, and the bytes of so many riders from rider j on.
+abbrev pub requestHead : Request → List ℕ
+requestHead q =
+    openingBytes 1 2 (riderStart (riderCountOf q))
+    ++ bytesOf 2 (q .source)
+    ++ bytesOf 2 (q .target)
+    ++ bytesOf 1 (busWeightOf q)
+    ++ bytesOf 1 (riderCountOf q)
+
+unfoldable pub ridersFrom : Request → ℕ → ℕ → List ℕ
+ridersFrom q zero j = []
+ridersFrom q (suc count) j = bytesOf 2 (riderNodeOf q j) ++ bytesOf 1 (riderWeightOf q j) ++ ridersFrom q count (suc j)
+
+abbrev pub requestRecord : Request → List ℕ
+requestRecord q = requestHead q ++ ridersFrom q (riderCountOf q) 0
+
+-- A value has seven places of each kind, as its type says.
+pub record Seven (q : Request) : Type 0 where
+  pub nodes : length (q .nodes) ≡ mostRiders
+  pub weights : length (q .weights) ≡ mostRiders
 
 -- A sound request, as its value says it.
 pub record SoundValue (n : ℕ) (q : Request) : Type 0 where

@@ -1,23 +1,18 @@
 -- The depot's small town (5.1), as records.
-use Prim.Native.Nat.{ℕ, _+_, _/_, _%_}
+use Prim.Native.Nat.{ℕ, _+_, _*_, _/_}
 use mathlib.Core.List.{List, [], _∷_, _++_}
-use lib.ListN.{length}
+use lib.ListN.{length, getD}
 use Rattle.rules.specs.Limits.{closed}
+use Rattle.rules.specs.Network.{networkRecord}
+use Rattle.rules.specs.Request.{sevenPlaces, requestRecord}
 
-abbrev pub twoBytes : ℕ → List ℕ
-twoBytes x = x / 256 ∷ x % 256 ∷ []
-
+-- the four numbers of a link
 abbrev pub link : ℕ → ℕ → ℕ → ℕ → List ℕ
-link start end drive walk = twoBytes start ++ twoBytes end ++ twoBytes drive ++ twoBytes walk
-
--- a network of so many nodes with its links' bytes, eight for each
-abbrev pub networkOfLinks : ℕ → List ℕ → List ℕ
-networkOfLinks nodes links =
-    (1 ∷ 0 ∷ 0 ∷ []) ++ twoBytes (9 + length links) ++ twoBytes nodes ++ twoBytes (length links / 8) ++ links
+link start end drive walk = start ∷ end ∷ drive ∷ walk ∷ []
 
 abbrev pub town : List ℕ
 town =
-    networkOfLinks 5
+    networkRecord 5
     (link 0 1 3 9
     ++ link 1 3 3 9
     ++ link 0 2 5 closed
@@ -27,13 +22,23 @@ town =
     ++ link 1 4 closed 2
     ++ link 2 4 1 6)
 
+-- the two numbers of a rider
 abbrev pub rider : ℕ → ℕ → List ℕ
-rider node weight = twoBytes node ++ weight ∷ []
+rider node weight = node ∷ weight ∷ []
 
--- a request with its riders' bytes, three for each
+-- a request with the numbers of its riders
 abbrev pub request : ℕ → ℕ → ℕ → List ℕ → List ℕ
 request source target weight riders =
-    (1 ∷ []) ++ twoBytes (9 + length riders) ++ twoBytes source ++ twoBytes target ++ weight ∷ length riders / 3 ∷ riders
+    requestRecord (
+    record {
+      source = source;
+      target = target;
+      «bus_weight» = weight;
+      «rider_count» = length riders / 2;
+      nodes = sevenPlaces (λ j. getD riders (2 * j) 0) (length riders / 2);
+      weights = sevenPlaces (λ j. getD riders (2 * j + 1) 0) (length riders / 2);
+    }
+    )
 
 -- case A: one rider, at 4, of weight 1
 abbrev pub caseA : List ℕ

@@ -81,6 +81,12 @@ pub struct RequestRead {
     pub request: Request,
 }
 
+// The answer of what writes a record: the record's length, or why none was written.
+pub enum Recorded {
+    Length(usize),
+    Refused(Refusal),
+}
+
 // The answer of pricing.
 pub enum Priced {
     Price(u64),
