@@ -18,9 +18,12 @@
  * A result below 2^63 is what was asked for. A refusal is 2^63 + 65,536 * place + number (4.11); the tablet's is
  * 2^63 + number, without the place (4.10). Where several apply, the first is given in the order in which they are
  * listed below, and at the lowest place (4.1). The numbers 1 to 6 refuse the network record (4.2), 11 to 17 the
- * request record (4.3). The place is the number of the bad link for 6, that of the bad node for 16 (0 source,
- * 1 target, 2 + j rider j), that of the bad weight for 17 (0 bus, 1 + j rider j), and 0 where none is named. A refusal
- * leaves every part as it was, except 24 (4.8).
+ * request record (4.3), 81 and 82 the numbers of which a record is to be made, and 83 its room (4.12). The place is the
+ * number of the bad link for 6, that of the bad node for 16 (0 source, 1 target, 2 + j rider j), that of the bad weight
+ * for 17 (0 bus, 1 + j rider j), and 0 where none is named. A refusal leaves every part as it was, except 24 (4.8).
+ *
+ * Records are made by the two functions that write them, and can be taken apart by hand: 1.2 and 1.5 say where each
+ * number stands.
  */
 #ifndef TIVELGOR_H
 #define TIVELGOR_H
@@ -72,6 +75,22 @@
 #define TIVELGOR_MOST_ROUTE 4095
 #define TIVELGOR_LONGEST_NETWORK 16393
 #define TIVELGOR_LONGEST_REQUEST 30
+
+/* The lengths of a network record of m links (1.2) and of a request record of l riders (1.5), each as a size_t. */
+#define TIVELGOR_NETWORK_LENGTH(m) (9 + 8 * (size_t)(m))
+#define TIVELGOR_REQUEST_LENGTH(l) (9 + 3 * (size_t)(l))
+
+/* How many numbers make a link: from, to, drive and walk, in that order (1.11). */
+#define TIVELGOR_LINK_NUMBERS 4
+
+/* How many numbers make a request, and at which place of them each stands (4.13); j is a rider, 0 to 6. */
+#define TIVELGOR_REQUEST_NUMBERS 18
+#define TIVELGOR_AT_SOURCE 0
+#define TIVELGOR_AT_TARGET 1
+#define TIVELGOR_AT_BUS_WEIGHT 2
+#define TIVELGOR_AT_RIDERS 3
+#define TIVELGOR_AT_NODE(j) (4 + (size_t)(j))
+#define TIVELGOR_AT_WEIGHT(j) (11 + (size_t)(j))
 
 /*
  * The places that a search in n nodes, at least 1, for l riders, at most 7, needs in its rooms (4.4), each as a size_t.
@@ -180,6 +199,41 @@ uint64_t tivelgor_search(const uint8_t *network, size_t network_length,
                          uint32_t *distances, size_t distances_length,
                          uint64_t *table, size_t table_length,
                          uint16_t *steps, size_t steps_length);
+
+/*
+ * Writes a network record (1.11).
+ *
+ *   n      the number of nodes
+ *   links  four numbers for each link, in the order of the links: from, to, drive and walk, where TIVELGOR_CLOSED as a
+ *          cost closes the link to that use (1.4); so links_length is 4 * m (TIVELGOR_LINK_NUMBERS)
+ *   room   needs 9 + 8 * m places (TIVELGOR_NETWORK_LENGTH): the record is put at its start
+ *
+ * Gives the record's length; or a refusal, 81 for an n of 0 or over 512, a links_length that is no multiple of 4, or
+ * more than 2,048 links, 82 for a link from or to a node of n or more, 83 for too small a room (4.12). Later bytes of
+ * the room keep their values. tivelgor_network accepts the record (1.12).
+ */
+uint64_t tivelgor_write_network(size_t n,
+                                const uint16_t *links, size_t links_length,
+                                uint8_t *room, size_t room_length);
+
+/*
+ * Writes a request record for networks of n nodes (1.11).
+ *
+ *   n        the number of nodes; with TIVELGOR_MOST_NODES, any node that a network can have may be named
+ *   request  18 numbers (4.13), each at its place: source, target, bus weight and the number of riders
+ *            (TIVELGOR_AT_SOURCE, TIVELGOR_AT_TARGET, TIVELGOR_AT_BUS_WEIGHT, TIVELGOR_AT_RIDERS), then the node where
+ *            rider j waits (TIVELGOR_AT_NODE) and the weight of rider j (TIVELGOR_AT_WEIGHT), 0 where there is no
+ *            rider j; so request_length is 18 (TIVELGOR_REQUEST_NUMBERS)
+ *   room     needs 9 + 3 * l places (TIVELGOR_REQUEST_LENGTH): the record is put at its start
+ *
+ * Gives the record's length; or a refusal, 81 for an n of 0 or over 512, a request_length other than 18, more than 7
+ * riders, a weight of 0 or over 100, or a node or weight other than 0 where there is no rider, 82 for a node of n or
+ * more, 83 for too small a room (4.12). Later bytes of the room keep their values. tivelgor_request accepts the record
+ * beside any network of n nodes (1.12).
+ */
+uint64_t tivelgor_write_request(size_t n,
+                                const uint64_t *request, size_t request_length,
+                                uint8_t *room, size_t room_length);
 
 #ifdef __cplusplus
 }

@@ -33,3 +33,17 @@ HOLDS(most_table, TIVELGOR_NEED_TABLE(512, 7) == TIVELGOR_MOST_TABLE);
 HOLDS(most_steps, TIVELGOR_NEED_STEPS(512, 7) == TIVELGOR_MOST_STEPS);
 HOLDS(longest_network, TIVELGOR_LONGEST_NETWORK == 9 + 8 * TIVELGOR_MOST_LINKS);
 HOLDS(longest_request, TIVELGOR_LONGEST_REQUEST == 9 + 3 * TIVELGOR_MOST_RIDERS);
+
+/* No link and no rider, the small town and case A, and the most of both. */
+HOLDS(network_length, TIVELGOR_NETWORK_LENGTH(0) == 9 && TIVELGOR_NETWORK_LENGTH(8) == 73);
+HOLDS(request_length, TIVELGOR_REQUEST_LENGTH(0) == 9 && TIVELGOR_REQUEST_LENGTH(1) == 12);
+HOLDS(most_network, TIVELGOR_NETWORK_LENGTH(TIVELGOR_MOST_LINKS) == TIVELGOR_LONGEST_NETWORK);
+HOLDS(most_request, TIVELGOR_REQUEST_LENGTH(TIVELGOR_MOST_RIDERS) == TIVELGOR_LONGEST_REQUEST);
+HOLDS(link_numbers, TIVELGOR_LINK_NUMBERS == 4);
+
+/* The places of a request's numbers lie one behind the other, and the last weight is the last of them. */
+HOLDS(request_head, TIVELGOR_AT_SOURCE == 0 && TIVELGOR_AT_TARGET == 1 && TIVELGOR_AT_BUS_WEIGHT == 2);
+HOLDS(request_riders, TIVELGOR_AT_RIDERS == 3);
+HOLDS(request_nodes, TIVELGOR_AT_NODE(0) == 4 && TIVELGOR_AT_NODE(TIVELGOR_MOST_RIDERS - 1) == 10);
+HOLDS(request_weights, TIVELGOR_AT_WEIGHT(0) == 11 && TIVELGOR_AT_WEIGHT(TIVELGOR_MOST_RIDERS - 1) == 17);
+HOLDS(request_numbers, TIVELGOR_REQUEST_NUMBERS == 18);

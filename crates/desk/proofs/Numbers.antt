@@ -4,7 +4,7 @@ use native.Mathlib.Omega.{arith}
 use mathlib.Core.Path.{_≡_, refl}
 use mathlib.Core.List.{List, [], _∷_}
 use lib.ListN.{length}
-use Rattle.rules.specs.Checks.{firstOf}
+use Rattle.rules.specs.Checks.{Check, firstOf}
 use Rattle.rules.specs.Limits.{mostNodes, mostLinks, stepRange}
 use Rattle.rules.specs.Network.{nodeCount, networkVerdict, networkOf, SoundNetwork}
 use Rattle.rules.specs.Request.{recordChecks, requestVerdict, requestOf, requestValue, SoundValue}
@@ -18,17 +18,14 @@ use Rattle.rules.specs.declared.Verdict.{Verdict}
 use Rattle.rules.specs.declared.Verdict.the-variants.{Accepted, Refused as NotAccepted}
 use Rattle.rules.proofs.Clash.{clash}
 use Rattle.rules.proofs.Order.{accepted-front}
-use Rattle.rules.proofs.Refusals.{Small, network-small, records-small, search-small}
+use Rattle.rules.specs.Writing.{Writing}
+use Rattle.rules.proofs.Refusals.{Gives, Small, network-small, records-small, search-small}
 use Rattle.rules.proofs.SoundNetworkLaws.{network-sound}
 use Rattle.rules.proofs.SoundRequestLaws.{records-sound, value-sound}
 use Rattle.finish.specs.Short.{mostCost}
 use Rattle.finish.proofs.Bounds.{right-plan-bounded}
-use Rattle.desk.specs.Numbers.{shortRange}
+use Rattle.desk.specs.Numbers.{shortRange, RefusesSmall}
 use Rattle.desk.proofs.Places.{walk-small, price-small}
-
--- Where the answer refuses, the number and the place are small.
-pub record RefusesSmall (answer : Outcome) : Type 0 where
-  pub small : (number place : ℕ) → answer ≡ refuses number place → (number < shortRange) × (place < shortRange)
 
 gives-small : (values : List ℕ) → RefusesSmall (gives values)
 gives-small values = record { small = λ number place e. clash (cc) }
@@ -71,6 +68,11 @@ pub walk-refusal : {network : List ℕ} {start : ℕ} {before after : List ℕ} 
 walk-refusal {network} {start} {before} walked =
     rw (walked .answers)
     (verdict-small (firstOf (walkChecks network start (length before))) _ (walk-small network start (length before) .given))
+
+-- ---- writing
+pub write-refusal : {checks : List Check} {bytes before after : List ℕ} {answer : Outcome} → Gives (Small shortRange) checks
+    → Writing (firstOf checks) bytes before after answer → RefusesSmall answer
+write-refusal {checks} small written = rw (written .answers) (verdict-small (firstOf checks) _ (small .given))
 
 -- ---- both records, once the checks of an entry are all passed
 both-sound : (network request : List ℕ) → requestVerdict network request ≡ Accepted

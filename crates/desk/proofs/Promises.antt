@@ -3,18 +3,24 @@ use Prim.Native.Nat.{ℕ, _-_, _/_, _%_, _^_, _≤_, _<_}
 use native.Mathlib.Omega.{arith}
 use mathlib.Core.Path.{_≡_, refl, sym, _∙_, ap}
 use mathlib.Core.List.{List, [], _∷_}
+use lib.ListN.{length}
 use Rattle.rules.specs.Limits.{firstRefusal, stepRange}
 use Rattle.rules.specs.Network.{networkOf}
 use Rattle.rules.specs.Request.{requestOf, riderCountOf}
 use Rattle.rules.specs.Rooms.{Lent}
 use Rattle.rules.specs.Answers.{Outcome, gives, refuses, networkOutcome, requestOutcome}
+use Rattle.rules.specs.Writing.{NetworkWritten, RequestWritten, valueOf}
+use Rattle.rules.specs.declared.Verdict.{Verdict}
 use Rattle.rules.specs.declared.Verdict.the-variants.{Accepted}
-use Rattle.rules.proofs.AnswerLaws.{walked-unique, priced-route-unique, searched-unique}
+use Rattle.rules.proofs.RoundTrips.{network-size, request-size, list-value, list-written}
+use Rattle.rules.proofs.AnswerLaws.{walked-unique, priced-route-unique, writing-unique, searched-unique}
 use Rattle.records.proofs.RequestLaws.{few-riders}
 use Rattle.price.proofs.Bounds.{pricing-bounded}
-use Rattle.desk.specs.Numbers.{shortRange, deskNumber, WalkTold, PriceTold, PlanTold}
-use Rattle.desk.proofs.Numbers.{RefusesSmall, network-refusal, network-sizes, request-refusal, walk-refusal, price-refusal}
-use Rattle.desk.proofs.Numbers.{plan-refusal, plan-bounded}
+use Rattle.desk.specs.Numbers.{shortRange, deskNumber, RefusesSmall, WalkTold, PriceTold, WriteTold, NetworkWriteTold, RequestWriteTold}
+use Rattle.desk.specs.Numbers.{PlanTold}
+use Rattle.desk.proofs.Numbers.{network-refusal, network-sizes, request-refusal, walk-refusal, price-refusal}
+use Rattle.desk.proofs.Numbers.{write-refusal, plan-refusal, plan-bounded}
+use Rattle.desk.proofs.Places.{network-written-small, list-written-small}
 
 -- ---- any two results agree
 pub network-told-unique : (s : List ℕ) {x y : ℕ} → x ≡ deskNumber shortRange (networkOutcome (networkOf s))
@@ -35,6 +41,12 @@ pub price-told-unique : {network request route before a b : List ℕ} {x y : ℕ
     → PriceTold network request route before b y → (a ≡ b) × (x ≡ y)
 price-told-unique s t =
     let (room, answer) = priced-route-unique (s .priced) (t .priced) in
+    (room, s .tells ∙ ap (deskNumber shortRange) answer ∙ sym (t .tells))
+
+pub write-told-unique : {verdict : Verdict} {bytes before a b : List ℕ} {x y : ℕ} → WriteTold verdict bytes before a x
+    → WriteTold verdict bytes before b y → (a ≡ b) × (x ≡ y)
+write-told-unique s t =
+    let (room, answer) = writing-unique (s .written) (t .written) in
     (room, s .tells ∙ ap (deskNumber shortRange) answer ∙ sym (t .tells))
 
 pub plan-told-unique : {network : List ℕ} (request : List ℕ) {before a b : Lent} {x y : ℕ} → PlanTold network request before a x
@@ -67,6 +79,24 @@ pub price-value : {network request route before after : List ℕ} {number price 
 price-value {network} {request} {route} so told =
     let same = so .tells ∙ ap (deskNumber shortRange) told in
     (same, omega (arith, same, pricing-bounded network request route _ (so .priced .pricing) told))
+
+module _ (n : ℕ) (numbers : List ℕ) {before after : List ℕ} {number size : ℕ} where
+  pub network-write-value :
+      (so : NetworkWriteTold n numbers before after number)
+      → so .answer ≡ gives (size ∷ []) → (number ≡ size) × (number < firstRefusal)
+  network-write-value so told =
+      let same = so .tells ∙ ap (deskNumber shortRange) told in
+      let written : NetworkWritten n numbers before after (gives (size ∷ [])) = rw told at (so .written) in
+      (same, omega (arith, same, network-size n numbers written))
+
+  pub request-write-value :
+      (so : RequestWriteTold n numbers before after number)
+      → so .answer ≡ gives (size ∷ []) → (number ≡ size) × (number < firstRefusal)
+  request-write-value so told =
+      let same = so .tells ∙ ap (deskNumber shortRange) told in
+      let whole = list-written n numbers (so .written) told in
+      let written : RequestWritten n (valueOf numbers) before after (gives (size ∷ [])) = rw told at (list-value n numbers (so .written) whole) in
+      (same, omega (arith, same, request-size n (valueOf numbers) written))
 
 pub plan-value : {network : List ℕ} (request : List ℕ) {before after : Lent} {number cost count : ℕ}
     (so : PlanTold network request before after number)
@@ -111,6 +141,19 @@ walk-refused so refused = reads shortRange (walk-refusal (so .walked)) (so .tell
 pub price-refused : {network request route before after : List ℕ} {told number place : ℕ} (so : PriceTold network request route before after told)
     → so .answer ≡ refuses number place → TellsRefusal told number place
 price-refused so refused = reads shortRange (price-refusal (so .priced)) (so .tells) refused
+
+module _ {before after : List ℕ} {told number place : ℕ} where
+  pub network-write-refused : (n : ℕ) (numbers : List ℕ)
+      (so : NetworkWriteTold n numbers before after told)
+      → so .answer ≡ refuses number place → TellsRefusal told number place
+  network-write-refused n numbers so refused =
+      reads shortRange (write-refusal (network-written-small n numbers (length before)) (so .written)) (so .tells) refused
+
+  pub request-write-refused : (n : ℕ) (numbers : List ℕ)
+      (so : RequestWriteTold n numbers before after told)
+      → so .answer ≡ refuses number place → TellsRefusal told number place
+  request-write-refused n numbers so refused =
+      reads shortRange (write-refusal (list-written-small n numbers (length before)) (so .written)) (so .tells) refused
 
 pub plan-refused : {network : List ℕ} (request : List ℕ) {before after : Lent} {told number place : ℕ}
     (so : PlanTold network request before after told)

@@ -1,5 +1,7 @@
-// The library for host programs at a desk: reading, walking, pricing and the search, each with one number for its
-// answer. Below 2^63 it is the value; a refusal is 2^63 + 65,536 × place + number.
+// The library for host programs at a desk: reading, walking, pricing, the search and writing, each with one number for
+// its answer. Below 2^63 it is the value; a refusal is 2^63 + 65,536 × place + number.
+mod writing;
+
 use price::price;
 use records::read_network;
 use records::read_request;
@@ -18,6 +20,8 @@ ghost use Rattle.rules.specs.Request.{requestOf};
 ghost use Rattle.rules.specs.Rooms.{lent};
 ghost use Rattle.rules.specs.Answers.{refuses, networkOutcome, requestOutcome};
 ghost use Rattle.desk.specs.Numbers.{shortRange, deskNumber, WalkTold, PriceTold, PlanTold};
+pub use writing::tivelgor_write_network;
+pub use writing::tivelgor_write_request;
 
 // What n, and the place of a refusal, count for in the number that tells them.
 const SHORT_RANGE: u64 = 65536;
