@@ -1,6 +1,6 @@
 // What the search answers to a row of numbers and leaves in the rooms, and whether that is right.
-use crate::record_bytes::*;
 use crate::rows::*;
+use crate::writing::*;
 use libc::STDOUT_FILENO;
 use rules::Planned;
 
@@ -48,13 +48,16 @@ pub fn searched(town: &[usize; NUMBERS]) -> [usize; ANSWER] {
     let mut distances = [MARK as u32; DISTANCES];
     let mut table = [MARK as u64; TABLE];
     let mut steps = [MARK as u16; STEPS];
-    let network = network_bytes(town);
-    let request = request_bytes(town);
-    let network_end = network_size(town);
-    let request_end = request_size(town);
-    let planned = search::search(
-        &network[0..network_end],
-        &request[0..request_end],
+    let mut network = [0u8; NETWORK];
+    let mut request = [0u8; REQUEST];
+    let sizes = Sizes {
+        network: put_network(town, &mut network),
+        request: put_request(town, &mut request),
+    };
+    let planned = planned(
+        &network,
+        &request,
+        sizes,
         &mut distances,
         &mut table,
         &mut steps,
@@ -62,6 +65,37 @@ pub fn searched(town: &[usize; NUMBERS]) -> [usize; ANSWER] {
     let mut answer = said(planned);
     put_rooms(&mut answer, &distances, &table, &steps);
     answer
+}
+
+// How long the two records are.
+struct Sizes {
+    network: usize,
+    request: usize,
+}
+
+fn planned(
+    network: &[u8; NETWORK],
+    request: &[u8; REQUEST],
+    sizes: Sizes,
+    distances: &mut [u32; DISTANCES],
+    table: &mut [u64; TABLE],
+    steps: &mut [u16; STEPS],
+) -> Planned {
+    search::search(
+        first(network, sizes.network),
+        first(request, sizes.request),
+        distances,
+        table,
+        steps,
+    )
+}
+
+// The first bytes of a room, or all where there are fewer.
+fn first(room: &[u8], count: usize) -> &[u8] {
+    if room.len() < count {
+        return room;
+    }
+    &room[0..count]
 }
 
 fn said(planned: Planned) -> [usize; ANSWER] {

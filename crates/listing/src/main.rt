@@ -6,10 +6,10 @@ mod generator;
 mod meetings;
 mod paths;
 mod plans;
-mod record_bytes;
 mod rows;
 mod sums;
 mod walks;
+mod writing;
 
 use answers::*;
 use finishes::best_finish;

@@ -20,11 +20,11 @@ use tablet::tivelgor_tablet_price;
 const SHORT_RANGE: u64 = 65536;
 
 // Up to three numbers that a line gives its entry, and whether these and the parts of the line are what the entry takes.
-struct Given {
-    first: usize,
-    second: usize,
-    third: usize,
-    fits: bool,
+pub struct Given {
+    pub first: usize,
+    pub second: usize,
+    pub third: usize,
+    pub fits: bool,
 }
 
 // Whether the call of a line gives the right answer and leaves the right rooms.
@@ -58,7 +58,7 @@ pub fn is_right(line: &[u8], network: &[u8], request: &[u8], route: &[u8]) -> bo
 }
 
 // What a line gives an entry that takes so many numbers and rooms.
-fn given_to(line: &[u8], numbers: usize, rooms: usize) -> Given {
+pub fn given_to(line: &[u8], numbers: usize, rooms: usize) -> Given {
     let mut list = [0; NUMBERS];
     let count = read(part(line, 0), &mut list);
     Given {
@@ -69,7 +69,7 @@ fn given_to(line: &[u8], numbers: usize, rooms: usize) -> Given {
     }
 }
 
-fn not_given() -> bool {
+pub fn not_given() -> bool {
     wrong(b"not the numbers, places and parts of the entry")
 }
 
@@ -135,13 +135,9 @@ fn put_bytes(link: &[u8], bytes: &mut [u64; LONGS]) {
         if link.len() <= i {
             return;
         }
-        bytes[i] = wide_byte(link[i]);
+        bytes[i] = wide(link[i]);
         i += 1;
     }
-}
-
-fn wide_byte(x: u8) -> u64 {
-    x as u64
 }
 
 fn finds_size(line: &[u8], network: &[u8]) -> bool {
@@ -164,7 +160,7 @@ fn walks(line: &[u8], network: &[u8]) -> bool {
 }
 
 fn prices(line: &[u8], network: &[u8], request: &[u8], route: &[u8]) -> bool {
-    let links = links_of(route);
+    let links = shorts_of(route);
     let mut meeting = [BEFORE as u16; SHORTS];
     let given = given_to(line, 1, 1);
     let places = given.first;

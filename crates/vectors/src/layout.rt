@@ -11,7 +11,11 @@ pub const REQUEST: usize = 1;
 
 pub const ROUTE: usize = 2;
 
-pub const KINDS: usize = 3;
+pub const LINKS: usize = 3;
+
+pub const VALUE: usize = 4;
+
+pub const KINDS: usize = 5;
 
 pub const RECORD: usize = 16402;
 
@@ -28,6 +32,12 @@ pub fn kind_named(word: &[u8]) -> usize {
     if same(word, b"Route") {
         return ROUTE;
     }
+    if same(word, b"Links") {
+        return LINKS;
+    }
+    if same(word, b"Value") {
+        return VALUE;
+    }
     KINDS
 }
 
@@ -41,8 +51,8 @@ pub fn lent(handed: &[u8], kind: usize, size: usize) -> &[u8] {
     &handed[start..end]
 }
 
-// Lays out what a line lists, with 255 behind it: the links of a route, or the fields of a record behind the number of
-// bytes that are lent. Gives that number, or for a route two for each link; where the line is not understood, too many.
+// Lays out what a line lists, with 255 behind it: the fields of a record behind the number of bytes that are lent, or
+// the numbers of a list. Gives the number of bytes; where the line is not understood, too many.
 pub fn lay_out(kind: usize, part: &[u8], handed: &mut [u8; HANDED]) -> usize {
     let mut list = [0; NUMBERS];
     let count = read(part, &mut list);
@@ -50,15 +60,23 @@ pub fn lay_out(kind: usize, part: &[u8], handed: &mut [u8; HANDED]) -> usize {
     if RECORD < count || !is_whole(kind, count) {
         return HANDED;
     }
-    if kind == ROUTE {
-        put_fields(kind, 0, count, &list, handed);
-        return 2 * count;
+    put_fields(kind, first_field(kind), count, &list, handed);
+    match kind {
+        NETWORK | REQUEST => list[0] as usize,
+        VALUE => 8 * count,
+        _ => 2 * count,
     }
-    put_fields(kind, 1, count, &list, handed);
-    list[0] as usize
 }
 
-// Whether so many numbers are the bytes lent, the head of a record and whole links or riders; or links of a route.
+// Which number of a line is the first field of a record, or the first of a list.
+fn first_field(kind: usize) -> usize {
+    match kind {
+        NETWORK | REQUEST => 1,
+        _ => 0,
+    }
+}
+
+// Whether so many numbers are the bytes lent, the head of a record and whole links or riders; or a list.
 fn is_whole(kind: usize, count: usize) -> bool {
     match kind {
         NETWORK => 5 <= count && count % 4 == 1,
@@ -68,7 +86,7 @@ fn is_whole(kind: usize, count: usize) -> bool {
 }
 
 fn clear(start: usize, handed: &mut [u8; HANDED])
-    requires { ⌜ start ≤ 32804 ⌝ }
+    requires { ⌜ start ≤ 65608 ⌝ }
 {
     let mut i = 0;
     while i < RECORD {
@@ -98,13 +116,14 @@ fn put_fields(
     }
 }
 
-// How many bytes field i of a record has, or link i of a route.
+// How many bytes field i of a record has, or number i of a list.
 fn width(kind: usize, i: usize) -> usize
-    ensures { λ r. ⌜ r ≤ 4 ⌝ }
+    ensures { λ r. ⌜ r ≤ 8 ⌝ }
 {
     match kind {
         NETWORK => network_width(i),
         REQUEST => request_width(i),
+        VALUE => 8,
         _ => 2,
     }
 }
@@ -131,10 +150,10 @@ fn request_width(i: usize) -> usize
 
 // Puts the low bytes of a number into a field, the highest of them first.
 fn put(kind: usize, at: usize, width: usize, number: u64, handed: &mut [u8; HANDED])
-    requires { ⌜ at ≤ 65608 ⌝ }
+    requires { ⌜ at ≤ 131216 ⌝ }
 {
     let mut left = number;
-    let mut i = width % 8;
+    let mut i = width % 16;
     while 0 < i {
         i -= 1;
         put_byte(kind, at + i, left, handed);
@@ -149,31 +168,75 @@ fn put_byte(kind: usize, at: usize, number: u64, handed: &mut [u8; HANDED]) {
     handed[kind % KINDS * RECORD + at] = (number % 256) as u8;
 }
 
-// The links of a route that has as many bytes as there is room for.
-pub const LINKS: usize = RECORD / 2;
+// The numbers of a list that has as many bytes as there is room for, two for each or eight.
+pub const SHORT_NUMBERS: usize = RECORD / 2;
 
-// The links of a route's bytes, with zeros behind them.
-pub fn links_of(route: &[u8]) -> [u16; LINKS] {
-    let mut links = [0u16; LINKS];
+pub const LONG_NUMBERS: usize = RECORD / 8;
+
+// The numbers of two bytes that a list has, with zeros behind them.
+pub fn shorts_of(bytes: &[u8]) -> [u16; SHORT_NUMBERS] {
+    let mut numbers = [0u16; SHORT_NUMBERS];
     let mut i = 0;
-    while i < LINKS {
-        if route.len() < 2 * i + 2 {
-            return links;
+    while i < SHORT_NUMBERS {
+        if bytes.len() < 2 * i + 2 {
+            return numbers;
         }
-        links[i] = joined(route[2 * i], route[2 * i + 1]);
+        numbers[i] = joined(bytes[2 * i], bytes[2 * i + 1]);
         i += 1;
     }
-    links
+    numbers
 }
 
 fn joined(high: u8, low: u8) -> u16 {
     256 * high as u16 + low as u16
 }
 
-// The first links of a route, or all where there are fewer.
-pub fn first(links: &[u16], count: usize) -> &[u16] {
-    if links.len() < count {
-        return links;
+// The first numbers of a list, or all where there are fewer.
+pub fn first(numbers: &[u16], count: usize) -> &[u16] {
+    if numbers.len() < count {
+        return numbers;
     }
-    &links[0..count]
+    &numbers[0..count]
+}
+
+// The numbers of eight bytes that a list has, with zeros behind them.
+pub fn longs_of(bytes: &[u8]) -> [u64; LONG_NUMBERS] {
+    let mut numbers = [0u64; LONG_NUMBERS];
+    let mut i = 0;
+    while i < LONG_NUMBERS {
+        if bytes.len() < 8 * i + 8 {
+            return numbers;
+        }
+        numbers[i] = eight(&bytes[8 * i..8 * i + 8]);
+        i += 1;
+    }
+    numbers
+}
+
+// The number of up to eight bytes.
+fn eight(bytes: &[u8]) -> u64 {
+    let mut number = 0;
+    let mut i = 0;
+    while i < bytes.len() {
+        number = number % BYTE_LESS * 256 + wide(bytes[i]);
+        i += 1;
+    }
+    number
+}
+
+// A number of seven bytes is below this.
+const BYTE_LESS: u64 = 72057594037927936;
+
+pub fn wide(x: u8) -> u64
+    ensures { λ r. ⌜ r ≤ 255 ⌝ }
+{
+    x as u64
+}
+
+// The first numbers of a list, or all where there are fewer.
+pub fn first_longs(numbers: &[u64], count: usize) -> &[u64] {
+    if numbers.len() < count {
+        return numbers;
+    }
+    &numbers[0..count]
 }

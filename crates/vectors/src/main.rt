@@ -5,6 +5,7 @@ mod layout;
 mod numbers;
 mod rooms;
 mod text;
+mod writing;
 
 use layout::*;
 use libc::STDIN_FILENO;
@@ -95,12 +96,23 @@ fn after_record(
 
 fn after_call(progress: Progress, line: &[u8], handed: &[u8; HANDED]) -> Progress {
     let sizes = progress.sizes;
-    let network = lent(handed, NETWORK, sizes[NETWORK]);
-    let request = lent(handed, REQUEST, sizes[REQUEST]);
-    let route = lent(handed, ROUTE, sizes[ROUTE]);
     Progress {
-        right: calls::is_right(line, network, request, route),
+        right: is_right(line, handed, sizes),
         calls: progress.calls % TEXT + 1,
         sizes,
     }
+}
+
+fn is_right(line: &[u8], handed: &[u8; HANDED], sizes: [usize; KINDS]) -> bool {
+    let entry = word(line);
+    if same(entry, b"write-network") {
+        return writing::writes_network(line, lent(handed, LINKS, sizes[LINKS]));
+    }
+    if same(entry, b"write-request") {
+        return writing::writes_request(line, lent(handed, VALUE, sizes[VALUE]));
+    }
+    let network = lent(handed, NETWORK, sizes[NETWORK]);
+    let request = lent(handed, REQUEST, sizes[REQUEST]);
+    let route = lent(handed, ROUTE, sizes[ROUTE]);
+    calls::is_right(line, network, request, route)
 }

@@ -1,4 +1,5 @@
 // Whether an answer and the places of a room are what a part of the line lists. The first difference is shown.
+use crate::layout::wide;
 use crate::numbers::EVERY_BIT;
 use crate::numbers::NUMBERS;
 use crate::numbers::read;
@@ -6,6 +7,8 @@ use libc::STDOUT_FILENO;
 use rules::FIRST_REFUSAL;
 
 // The places of a room of each width: all that can be needed, and some more.
+pub const BYTES: usize = 16409;
+
 pub const SHORTS: usize = 4112;
 
 pub const WORDS: usize = 3600;
@@ -59,6 +62,19 @@ pub fn shorts_are(what: &[u8], room: &[u16; SHORTS], part: &[u8]) -> bool {
         i += 1;
     }
     all_read(listed <= SHORTS)
+}
+
+pub fn bytes_are(what: &[u8], room: &[u8; BYTES], part: &[u8]) -> bool {
+    let mut right = [BEFORE; NUMBERS];
+    let listed = read(part, &mut right);
+    let mut i = 0;
+    while i < BYTES {
+        if !is_place(what, i, wide(room[i]), in_width(right[i], 255)) {
+            return false;
+        }
+        i += 1;
+    }
+    all_read(listed <= BYTES)
 }
 
 // A number with every bit set is the greatest of its place.

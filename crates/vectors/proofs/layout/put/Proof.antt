@@ -1,4 +1,4 @@
--- The place in the field is at most 8, and falls to 0.
+-- The place in the field is at most 16, and falls to 0.
 use Prim.Native.Nat.{_≤_}
 use borrow.Author.Needs.{needs}
 use Rattle.rules.proofs.Four.{four}
@@ -6,7 +6,7 @@ use Rattle.vectors.proofs.layout.put.Statement.{statement}
 use Rattle.vectors.proofs.layout.put.Tie as tie
 
 abbrev Inv-loop : tie.InvT-loop
-Inv-loop kind at width number handed₀ left₀ i₀ handed left i = i ≤ 8
+Inv-loop kind at width number handed₀ left₀ i₀ handed left i = i ≤ 16
 
 abbrev μ-loop : tie.MeasureT-loop
 μ-loop kind at width number handed₀ left₀ i₀ handed left i = i
