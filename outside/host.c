@@ -12,8 +12,9 @@ struct part {
     uint64_t offset, length;
 };
 
+/* The number is the start of a walk, or n of what is written. */
 struct head {
-    uint64_t function, start, memory_length;
+    uint64_t function, number, memory_length;
     struct part parts[5];
 };
 
@@ -65,16 +66,20 @@ static uint64_t call(const struct head *head)
     case 1:
         return tivelgor_request(at(head, 0), part[0].length, at(head, 1), part[1].length);
     case 2:
-        return tivelgor_walk(at(head, 0), part[0].length, head->start, at(head, 1), part[1].length);
+        return tivelgor_walk(at(head, 0), part[0].length, head->number, at(head, 1), part[1].length);
     case 3:
         return tivelgor_price(at(head, 0), part[0].length, at(head, 1), part[1].length, at(head, 2), part[2].length,
                               at(head, 3), part[3].length);
     case 4:
         return tivelgor_search(at(head, 0), part[0].length, at(head, 1), part[1].length, at(head, 2), part[2].length,
                                at(head, 3), part[3].length, at(head, 4), part[4].length);
-    default:
+    case 5:
         return tivelgor_tablet_price(at(head, 0), part[0].length, at(head, 1), part[1].length, at(head, 2),
                                      part[2].length);
+    case 6:
+        return tivelgor_write_network(head->number, at(head, 0), part[0].length, at(head, 1), part[1].length);
+    default:
+        return tivelgor_write_request(head->number, at(head, 0), part[0].length, at(head, 1), part[1].length);
     }
 }
 

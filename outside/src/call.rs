@@ -5,6 +5,7 @@ use crate::price::{price, price_on_tablet};
 use crate::record::{read_both, Answer, Network};
 use crate::search::{search, STEP_RANGE};
 use crate::walk::walk;
+use crate::write::{write_network, write_request};
 
 #[derive(Clone)]
 pub enum Call {
@@ -14,6 +15,8 @@ pub enum Call {
     Price { network: Vec<u8>, request: Vec<u8>, route: Vec<u16>, meeting: Vec<u16> },
     Search { network: Vec<u8>, request: Vec<u8>, distances: Vec<u32>, table: Vec<u64>, steps: Vec<u16> },
     Tablet { network: Vec<u8>, request: Vec<u8>, route: Vec<u8> },
+    WriteNetwork { n: u64, links: Vec<u16>, room: Vec<u8> },
+    WriteRequest { n: u64, value: Vec<u64>, room: Vec<u8> },
 }
 
 impl Call {
@@ -25,6 +28,8 @@ impl Call {
             Call::Price { .. } => "price",
             Call::Search { .. } => "search",
             Call::Tablet { .. } => "tablet",
+            Call::WriteNetwork { .. } => "write-network",
+            Call::WriteRequest { .. } => "write-request",
         }
     }
 
@@ -43,6 +48,8 @@ impl Call {
                 search(network, request, distances, table, steps).map(|(cost, count)| STEP_RANGE * cost + count)
             }
             Call::Tablet { network, request, route } => price_on_tablet(network, request, route),
+            Call::WriteNetwork { n, links, room } => write_network(*n, links, room),
+            Call::WriteRequest { n, value, room } => write_request(*n, value, room),
         }
     }
 
@@ -64,13 +71,17 @@ impl Call {
             Call::Price { .. } => 3,
             Call::Search { .. } => 4,
             Call::Tablet { .. } => 5,
+            Call::WriteNetwork { .. } => 6,
+            Call::WriteRequest { .. } => 7,
         }
     }
 
-    pub fn start(&self) -> u64 {
+    /// The number that is handed over beside the parts: the start of a walk, or n of what is written.
+    pub fn number(&self) -> Option<u64> {
         match self {
-            Call::Walk { start, .. } => *start,
-            _ => 0,
+            Call::Walk { start, .. } => Some(*start),
+            Call::WriteNetwork { n, .. } | Call::WriteRequest { n, .. } => Some(*n),
+            _ => None,
         }
     }
 
@@ -93,6 +104,8 @@ impl Call {
             Call::Tablet { network, request, route } => {
                 vec![part("network", network), part("request", request), part("route", route)]
             }
+            Call::WriteNetwork { links, room, .. } => vec![part("links", links), part("room", room)],
+            Call::WriteRequest { value, room, .. } => vec![part("value", value), part("room", room)],
         }
     }
 }

@@ -6,6 +6,7 @@ use crate::random::Random;
 use crate::record::{Network, Request, MOST_RIDERS};
 use crate::search::needs;
 use crate::shapes::{self, Size, LARGEST};
+use crate::write_cases::{write_network, write_request};
 
 pub fn call(case: u64) -> Call {
     let mut random = Random::new(case);
@@ -17,12 +18,14 @@ pub fn call(case: u64) -> Call {
 }
 
 fn any_call(random: &mut Random) -> Call {
-    match random.below(12) {
+    match random.below(14) {
         0 => read_network(random),
         1 | 2 => read_request(random),
         3 | 4 => walk(random),
         5 | 6 => price(random),
         7 | 8 => price_on_tablet(random),
+        9 => write_network(random),
+        10 => write_request(random),
         _ => search(random),
     }
 }
@@ -136,7 +139,7 @@ pub fn records(random: &mut Random, network: &Network, request: &Request, damage
 }
 
 /// A room that may be too small for the need.
-fn room<T>(random: &mut Random, need: usize, element: fn(u64) -> T) -> Vec<T> {
+pub fn room<T>(random: &mut Random, need: usize, element: fn(u64) -> T) -> Vec<T> {
     let length = match random.below(24) {
         0 => 0,
         1 => random.below(need + 1),

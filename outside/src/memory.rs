@@ -3,7 +3,7 @@
 use crate::call::Call;
 use crate::random::Random;
 
-/// The numbers before the memory: the function, the start, the memory's length, offset and length of up to five parts.
+/// The numbers before the memory: the function, its number, the memory's length, offset and length of up to five parts.
 const HEAD_NUMBERS: usize = 3 + 2 * 5;
 
 /// An element of a part, as the host's machine keeps it.
@@ -78,7 +78,7 @@ impl Memory {
 
     /// The call as the host reads it.
     pub fn message(&self, call: &Call) -> Vec<u8> {
-        let mut head = vec![call.function(), call.start(), self.bytes.len() as u64];
+        let mut head = vec![call.function(), call.number().unwrap_or(0), self.bytes.len() as u64];
         head.extend(self.spans.iter().flat_map(|span| [span.offset as u64, span.length as u64]));
         head.resize(HEAD_NUMBERS, 0);
         let mut message: Vec<u8> = head.into_iter().flat_map(u64::to_le_bytes).collect();

@@ -4,6 +4,17 @@ pub const CLOSED: u16 = 65_535;
 pub const MOST_NODES: usize = 512;
 pub const MOST_LINKS: usize = 2_048;
 pub const MOST_RIDERS: usize = 7;
+/// The bytes of the longest record, a network.
+pub const LONGEST_RECORD: usize = 9 + 8 * MOST_LINKS;
+
+/// The value of a request (1.9): source, target, bus weight and riders, seven nodes, seven weights.
+pub type Value = [u16; VALUE_NUMBERS];
+pub const VALUE_NUMBERS: usize = FIRST_WEIGHT + MOST_RIDERS;
+/// Where in a value the bus weight and the number of riders stand, and where the nodes and the weights begin.
+pub const BUS_WEIGHT: usize = 2;
+pub const RIDER_COUNT: usize = 3;
+pub const FIRST_NODE: usize = 4;
+pub const FIRST_WEIGHT: usize = FIRST_NODE + MOST_RIDERS;
 
 #[derive(Clone, Copy, Debug, PartialEq, Eq)]
 pub struct Refusal {
@@ -44,6 +55,11 @@ impl Link {
         }
     }
 
+    /// The link of four numbers, in the record's order.
+    pub fn of(numbers: &[u16]) -> Link {
+        Link { from: numbers[0].into(), to: numbers[1].into(), drive: numbers[2], walk: numbers[3] }
+    }
+
     /// The cost of driving the link, unless it is closed to the bus.
     pub fn drive_cost(&self) -> Option<u64> {
         (self.drive != CLOSED).then_some(u64::from(self.drive))
@@ -73,16 +89,17 @@ impl Network {
         Ok(Network { n, links })
     }
 
+    /// The four numbers of each link, one link behind the other (1.11).
+    pub fn numbers(&self) -> Vec<u16> {
+        self.links.iter().flat_map(|link| [link.from as u16, link.to as u16, link.drive, link.walk]).collect()
+    }
+
     pub fn record(&self) -> Vec<u8> {
         let mut record = vec![1];
         record.extend((9 + 8 * self.links.len() as u32).to_be_bytes());
         record.extend((self.n as u16).to_be_bytes());
         record.extend((self.links.len() as u16).to_be_bytes());
-        for link in &self.links {
-            for field in [link.from as u16, link.to as u16, link.drive, link.walk] {
-                record.extend(field.to_be_bytes());
-            }
-        }
+        record.extend(self.numbers().into_iter().flat_map(u16::to_be_bytes));
         record
     }
 }
@@ -131,6 +148,18 @@ impl Request {
         [self.bus_weight].into_iter().chain(riders).collect()
     }
 
+    /// The value that the request is read into.
+    pub fn value(&self) -> Value {
+        let mut value = [0; VALUE_NUMBERS];
+        let head = [self.source as u16, self.target as u16, u16::from(self.bus_weight), self.riders.len() as u16];
+        value[..4].copy_from_slice(&head);
+        for (j, rider) in self.riders.iter().enumerate() {
+            value[FIRST_NODE + j] = rider.node as u16;
+            value[FIRST_WEIGHT + j] = u16::from(rider.weight);
+        }
+        value
+    }
+
     pub fn record(&self) -> Vec<u8> {
         let mut record = vec![1];
         record.extend((9 + 3 * self.riders.len() as u16).to_be_bytes());
@@ -160,17 +189,9 @@ pub fn link_bytes(record: &[u8], link: u64) -> &[u8] {
     }
 }
 
-/// The value that a request is read into (1.9): source, target, bus weight and riders, seven nodes, seven weights.
-pub fn request_value(network: &[u8], request: &[u8]) -> [u16; 4 + 2 * MOST_RIDERS] {
-    let mut value = [0; 4 + 2 * MOST_RIDERS];
-    if let Ok((_, Request { source, target, bus_weight, riders })) = read_both(network, request) {
-        value[..4].copy_from_slice(&[source as u16, target as u16, u16::from(bus_weight), riders.len() as u16]);
-        for (j, rider) in riders.iter().enumerate() {
-            value[4 + j] = rider.node as u16;
-            value[4 + MOST_RIDERS + j] = u16::from(rider.weight);
-        }
-    }
-    value
+/// The value that a request is read into; beside a refusal all of it is 0.
+pub fn request_value(network: &[u8], request: &[u8]) -> Value {
+    read_both(network, request).map_or([0; VALUE_NUMBERS], |(_, request)| request.value())
 }
 
 /// The big-endian number that bytes hold.

@@ -10,7 +10,8 @@ use crate::record::{link_bytes, request_value};
 const BEFORE: u8 = 77;
 
 /// The entries that the file calls.
-pub const ENTRIES: [&str; 8] = ["network", "request", "link", "size", "walk", "price", "tablet", "search"];
+pub const ENTRIES: [&str; 10] =
+    ["network", "request", "link", "size", "walk", "price", "tablet", "search", "write-network", "write-request"];
 
 /// A call of the file, with what it must answer and what its rooms must begin with.
 pub struct Vector {
@@ -54,7 +55,7 @@ fn vector(line: usize, text: &str, handed: &Handed) -> Result<Vector, String> {
 
 fn entry(head: &str, handed: &Handed) -> Result<Entry, String> {
     let (name, numbers) = word_and_numbers(head)?;
-    let Handed { network, request, route } = handed.clone();
+    let Handed { network, request, route, links, value } = handed.clone();
     let call = match (name, &numbers[..]) {
         ("link", &[link]) => return Ok(Entry::Link { network, link }),
         ("size", []) => return Ok(Entry::Size { input: network }),
@@ -70,6 +71,8 @@ fn entry(head: &str, handed: &Handed) -> Result<Entry, String> {
         ("search", &[distances, table, steps]) => {
             Call::Search { network, request, distances: room(distances)?, table: room(table)?, steps: room(steps)? }
         }
+        ("write-network", &[n, places]) => Call::WriteNetwork { n, links, room: room(places)? },
+        ("write-request", &[n, places]) => Call::WriteRequest { n, value, room: room(places)? },
         _ => return Err(format!("{name:?} with {} numbers is no entry", numbers.len())),
     };
     Ok(Entry::Function(call))
@@ -86,6 +89,8 @@ struct Handed {
     network: Vec<u8>,
     request: Vec<u8>,
     route: Vec<u16>,
+    links: Vec<u16>,
+    value: Vec<u64>,
 }
 
 impl Handed {
@@ -94,7 +99,9 @@ impl Handed {
         match word {
             "Network" => self.network = record(&numbers, &[1, 4, 2, 2], &[2, 2, 2, 2])?,
             "Request" => self.request = record(&numbers, &[1, 2, 2, 2, 1, 1], &[2, 1])?,
-            "Route" => self.route = numbers.into_iter().map(route_link).collect::<Result<_, _>>()?,
+            "Route" => self.route = numbers.into_iter().map(in_16_bits).collect::<Result<_, _>>()?,
+            "Links" => self.links = numbers.into_iter().map(in_16_bits).collect::<Result<_, _>>()?,
+            "Value" => self.value = numbers,
             _ => return Err(format!("nothing is called {word:?}")),
         }
         Ok(())
@@ -114,9 +121,9 @@ fn record(numbers: &[u64], head: &[usize], entry: &[usize]) -> Result<Vec<u8>, S
     Ok(record)
 }
 
-fn route_link(number: u64) -> Result<u16, String> {
-    let link = if number == GREATEST { Ok(u16::MAX) } else { u16::try_from(number) };
-    link.map_err(|_| format!("{number} is no link of a route"))
+fn in_16_bits(number: u64) -> Result<u16, String> {
+    let cut = if number == GREATEST { Ok(u16::MAX) } else { u16::try_from(number) };
+    cut.map_err(|_| format!("{number} is more than 16 bits hold"))
 }
 
 impl Vector {
@@ -174,6 +181,7 @@ fn rooms(call: &Call) -> Vec<Room> {
         Call::Search { distances, table, steps, .. } => {
             vec![Room::of("distances", distances), Room::of("table", table), Room::of("steps", steps)]
         }
+        Call::WriteNetwork { room, .. } | Call::WriteRequest { room, .. } => vec![Room::of("room", room)],
     }
 }
 

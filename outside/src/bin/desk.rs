@@ -5,11 +5,11 @@ use outside::arguments::compare_only;
 use outside::call::{shown, Call};
 use outside::host::{Answers, Host};
 use outside::memory::Memory;
-use outside::record::{read_both, Answer, MOST_LINKS, MOST_NODES, MOST_RIDERS};
+use outside::record::{read_both, Answer, CLOSED, MOST_LINKS, MOST_NODES, MOST_RIDERS, RIDER_COUNT};
 use outside::search::{FIRST_DRIVE, STEP_RANGE};
 use outside::tally::Tally;
 use outside::vectors::{self, Entry, Vector};
-use outside::{desk_cases, listing};
+use outside::{desk_cases, listing, rereading};
 use std::error::Error;
 use std::io::Write;
 use std::process::{self, ChildStdin};
@@ -27,6 +27,22 @@ const PLAN_KINDS: [&str; 5] = [
     "plan that leaves a node twice",
     "plan that costs more than 32 bits hold",
     "plan with all limits reached",
+];
+
+/// Networks and requests that must have been written as often.
+const WRITTEN_NETWORKS: [&str; 6] = [
+    "network written with no link",
+    "network written with 2,048 links",
+    "network written with a link closed to the bus",
+    "network written with a link closed to walkers",
+    "network written into a room as long",
+    "network written into a longer room",
+];
+const WRITTEN_REQUESTS: [&str; 4] = [
+    "request written with no rider",
+    "request written with 7 riders",
+    "request written into a room as long",
+    "request written into a longer room",
 ];
 
 /// A call to make; the seed is that of the bytes around its parts.
@@ -55,6 +71,7 @@ fn compare(arguments: &[String]) -> Result<(), Box<dyn Error>> {
         vectors.iter().try_for_each(Vector::check).map_err(|error| format!("{file}, {error}"))?;
         by_entry.check(&vectors::ENTRIES.map(String::from), 1)?;
         listing::check()?;
+        rereading::check()?;
     }
     let (compared, tally) = compare_with_host(command, vectors)?;
     println!("outside: {compared} calls of the desk and the tablet agree with the rules");
@@ -108,7 +125,8 @@ fn compare_case(case: Case, answers: &mut Answers, tally: &mut Tally) -> Result<
         false => Some(format!("{} instead of {}", shown(theirs), shown(ours))),
     };
     if let Some(difference) = difference {
-        return Err(format!("{name}, {}: {difference}\n{}", call.name(), before.shown()).into());
+        let number = call.number().map_or(String::new(), |number| format!(" {number}"));
+        return Err(format!("{name}, {}{number}: {difference}\n{}", call.name(), before.shown()).into());
     }
     note(tally, &call, answer);
     Ok(())
@@ -120,8 +138,34 @@ fn note(tally: &mut Tally, call: &Call, answer: Answer<u64>) {
         (Ok(finish), Call::Search { network, request, steps, .. }) => {
             note_plan(tally, network, request, &steps[..(finish % STEP_RANGE) as usize], finish / STEP_RANGE);
         }
+        (Ok(length), Call::WriteNetwork { links, room, .. }) => note_network(tally, links, room, length as usize),
+        (Ok(length), Call::WriteRequest { value, room, .. }) => note_request(tally, value, room, length as usize),
         (Ok(_), _) => tally.add(format!("{} granted", call.name())),
     }
+}
+
+fn note_network(tally: &mut Tally, links: &[u16], room: &[u8], length: usize) {
+    let closed = |use_at: usize| links.chunks_exact(4).any(|link| link[use_at] == CLOSED);
+    let are = [
+        links.is_empty(),
+        links.len() == 4 * MOST_LINKS,
+        closed(2),
+        closed(3),
+        room.len() == length,
+        room.len() > length,
+    ];
+    note_kinds(tally, WRITTEN_NETWORKS, are);
+}
+
+fn note_request(tally: &mut Tally, value: &[u64], room: &[u8], length: usize) {
+    let l = value[RIDER_COUNT];
+    let are = [l == 0, l == MOST_RIDERS as u64, room.len() == length, room.len() > length];
+    note_kinds(tally, WRITTEN_REQUESTS, are);
+}
+
+/// Notes those of some kinds that are.
+fn note_kinds<const COUNT: usize>(tally: &mut Tally, kinds: [&str; COUNT], are: [bool; COUNT]) {
+    kinds.into_iter().zip(are).filter(|(_, is)| *is).for_each(|(kind, _)| tally.add(kind.into()));
 }
 
 fn note_plan(tally: &mut Tally, network: &[u8], request: &[u8], steps: &[u16], cost: u64) {
@@ -130,14 +174,14 @@ fn note_plan(tally: &mut Tally, network: &[u8], request: &[u8], steps: &[u16], c
     let nodes: Vec<usize> = [request.source].into_iter().chain(links.map(|k| network.links[k].to)).collect();
     let left = &nodes[..nodes.len() - 1];
     tally.add(format!("search granted for {} riders", request.riders.len()));
-    let kinds = PLAN_KINDS.into_iter().zip([
+    let are = [
         steps.is_empty(),
         left.contains(&request.target),
         (1..left.len()).any(|i| left[..i].contains(&left[i])),
         cost >= 1 << 32,
         network.n == MOST_NODES && network.links.len() == MOST_LINKS && request.riders.len() == MOST_RIDERS,
-    ]);
-    kinds.filter(|(_, is)| *is).for_each(|(kind, _)| tally.add(kind.into()));
+    ];
+    note_kinds(tally, PLAN_KINDS, are);
 }
 
 /// All that must occur.
@@ -151,11 +195,14 @@ fn outcomes() -> Vec<String> {
         ("price", both.clone(), (31..=37).collect()),
         ("search", both.clone(), (21..=24).collect()),
         ("tablet", both, (32..=38).collect()),
+        ("write-network", vec![], (81..=83).collect()),
+        ("write-request", vec![], (81..=83).collect()),
     ];
     let refused = refusals.into_iter().flat_map(|(name, records, own)| {
         records.into_iter().chain(own).map(move |number| format!("{name} refused {number}"))
     });
     let granted = ["network", "request", "walk", "price", "tablet"].map(|name| format!("{name} granted"));
     let planned = (0..=MOST_RIDERS).map(|l| format!("search granted for {l} riders"));
-    refused.chain(granted).chain(planned).chain(PLAN_KINDS.map(String::from)).collect()
+    let kinds = PLAN_KINDS.into_iter().chain(WRITTEN_NETWORKS).chain(WRITTEN_REQUESTS).map(String::from);
+    refused.chain(granted).chain(planned).chain(kinds).collect()
 }
