@@ -1,6 +1,6 @@
 /*
- * tivelgor: a command for the desks, which shows, plans, prices and walks with records in files. It reads, calls the
- * library and prints; the library decides. Numbers in brackets, as (1.2), are paragraphs of docs/RULES.md.
+ * tivelgor: a command for the desks, which shows, writes, plans, prices and walks with records in files. It reads,
+ * calls the library and prints; the library decides. Numbers in brackets, as (1.2), are paragraphs of docs/RULES.md.
  */
 #include <errno.h>
 #include <signal.h>
@@ -8,9 +8,10 @@
 #include <stdlib.h>
 #include <string.h>
 
+#include "text.h"
 #include "tivelgor.h"
 
-enum { status_refused = 1, status_failed = 2 };
+enum { status_refused = 1 };
 
 /* Where the fields of a network (1.2), of each of its links, and of a request (1.5) stand. */
 enum { nodes_at = 5, links_at = 9, link_bytes = 8 };
@@ -20,14 +21,14 @@ enum { source_at = 3, target_at = 5, bus_weight_at = 7, rider_count_at = 8, ride
 /* A file is taken whole, whatever the library will say of it, up to a length that no record comes near. */
 enum { most_bytes = 16 * 1024 * 1024 };
 
-struct record {
+struct contents {
     uint8_t bytes[most_bytes + 1];
     size_t length;
 };
 
-static struct record network, request;
+static struct contents network, request;
 
-/* What refusals mean (4.2 to 4.7). Those of too small a room are not among them: every room here is the greatest. */
+/* What refusals mean (4.2 to 4.12). Those of too small a room are not among them: every room here is the greatest. */
 struct refusal {
     unsigned number;
     const char *meaning, *place;
@@ -55,6 +56,8 @@ static const struct refusal refusals[] = {
     {36, "route that does not end at the target", NULL},
     {37, "rider who can walk to no position of the route", "the rider"},
     {41, "start of the walk that is not in the network", NULL},
+    {81, "number beyond the limits: 1 to 512 nodes, up to 2,048 links, up to 7 riders, weights of 1 to 100", NULL},
+    {82, "node that is not in the network; of a request, one over 511", NULL},
     {0, "for a reason that this command has no words for", NULL},
 };
 
@@ -98,42 +101,59 @@ static uint64_t number(const char *word, uint64_t greatest)
     const char *digit;
     uint64_t value = 0;
 
-    for (digit = word; *digit >= '0' && *digit <= '9'; digit++) {
-        unsigned next = (unsigned)(*digit - '0');
-
-        if (value > (greatest - next) / 10)
+    for (digit = word; is_digit(*digit); digit++)
+        if (!append(&value, *digit, greatest))
             fail(word, "too great a number");
-        value = 10 * value + next;
-    }
     if (digit == word || *digit != '\0')
         fail(word, "not a decimal number");
     return value;
 }
 
-static void read_record(struct record *record, const char *name)
+static void read_file(struct contents *contents, const char *name)
 {
     FILE *file = is(name, "-") ? stdin : fopen(name, "rb");
 
     if (file == NULL)
         fail(name, strerror(errno));
-    record->length = fread(record->bytes, 1, sizeof record->bytes, file);
+    contents->length = fread(contents->bytes, 1, sizeof contents->bytes, file);
     if (ferror(file))
         fail(name, strerror(errno));
-    if (record->length > most_bytes)
-        fail(name, "longer than 16 MiB, as no record is");
+    if (contents->length > most_bytes)
+        fail(name, "longer than 16 MiB, and so not read");
     fclose(file);
+}
+
+/* Sees that all that went to a file is written. */
+static void flush(FILE *file, const char *name)
+{
+    if (fflush(file) != 0 || ferror(file))
+        fail(name, strerror(errno));
+}
+
+static void write_file(const char *name, const uint8_t *bytes, size_t length)
+{
+    FILE *file = is(name, "-") ? stdout : fopen(name, "wb");
+
+    if (file == NULL)
+        fail(name, strerror(errno));
+    fwrite(bytes, 1, length, file);
+    if (file == stdout)
+        return; /* The program flushes it at its end. */
+    flush(file, name);
+    if (fclose(file) != 0)
+        fail(name, strerror(errno));
 }
 
 static void read_records(char **names)
 {
     if (is(names[0], "-") && is(names[1], "-"))
         fail("-", "standard input cannot be both records");
-    read_record(&network, names[0]);
-    read_record(&request, names[1]);
+    read_file(&network, names[0]);
+    read_file(&request, names[1]);
 }
 
 /* The number of 16 bits at a place of a record that the library has accepted. */
-static unsigned field(const struct record *record, size_t place)
+static unsigned field(const struct contents *record, size_t place)
 {
     return record->bytes[place] * 256u + record->bytes[place + 1];
 }
@@ -146,7 +166,7 @@ static unsigned link_field(unsigned link, size_t place)
 static void print_cost(const char *use, unsigned cost)
 {
     if (cost == TIVELGOR_CLOSED)
-        printf(", %s closed", use);
+        printf(", %s -", use);
     else
         printf(", %s %u", use, cost);
 }
@@ -181,17 +201,131 @@ static void show_request(void)
     }
 }
 
+/* Whether a kind of record is that of networks, or else that of requests. */
+static int is_network(const char *kind)
+{
+    if (!is(kind, "network") && !is(kind, "request"))
+        fail(kind, "no kind of record; network and request are");
+    return is(kind, "network");
+}
+
 static void show(char **words)
 {
-    if (is(words[0], "network")) {
-        read_record(&network, words[1]);
+    if (is_network(words[0])) {
+        read_file(&network, words[1]);
         show_network();
-    } else if (is(words[0], "request")) {
-        read_record(&request, words[1]);
-        show_request();
     } else {
-        fail(words[0], "no kind of record; network and request are");
+        read_file(&request, words[1]);
+        show_request();
     }
+}
+
+static struct text open_text(const char *name)
+{
+    static struct contents contents;
+    struct text text = {name, contents.bytes, 0, 0, 1};
+
+    read_file(&contents, name);
+    if (contents.length > 0 && contents.bytes[contents.length - 1] != '\n')
+        contents.bytes[contents.length++] = '\n';
+    text.length = contents.length;
+    return text;
+}
+
+/* The cost behind a word. */
+static uint16_t expect_cost(struct text *text, const char *word)
+{
+    uint64_t value = TIVELGOR_CLOSED;
+
+    expect(text, word);
+    if (!take(text, "-") && !take_number(text, &value, UINT16_MAX))
+        slip(text, "a number up to %llu, or -", (unsigned long long)UINT16_MAX);
+    return (uint16_t)value;
+}
+
+/* The numbers of link k, in the order in which the library takes them (1.11). */
+static void read_link(struct text *text, uint64_t k, uint16_t *link)
+{
+    expect_item(text, "link", k);
+    link[0] = (uint16_t)expect_number(text, "from", UINT16_MAX);
+    link[1] = (uint16_t)expect_number(text, "to", UINT16_MAX);
+    expect(text, ",");
+    link[2] = expect_cost(text, "drive");
+    expect(text, ",");
+    link[3] = expect_cost(text, "walk");
+    expect_line_end(text);
+}
+
+static void write_network(struct text text, const char *name)
+{
+    /* No text has more links: the line of each is longer than 16 bytes. */
+    static uint16_t links[TIVELGOR_LINK_NUMBERS * (most_bytes / 16)];
+    uint8_t room[TIVELGOR_LONGEST_NETWORK];
+    size_t nodes, length;
+    uint64_t k, count;
+
+    pass_blank_lines(&text);
+    nodes = expect_number(&text, "nodes", SIZE_MAX);
+    expect(&text, ",");
+    count = expect_number(&text, "links", UINT64_MAX);
+    expect_line_end(&text);
+    for (k = 0; k < count; k++)
+        read_link(&text, k, links + TIVELGOR_LINK_NUMBERS * k);
+    expect_end(&text, "links", count);
+    length = granted(tivelgor_write_network(nodes, links, TIVELGOR_LINK_NUMBERS * count, room, sizeof room));
+    write_file(name, room, length);
+}
+
+/* Node and weight of rider j, put at their places (4.13); for more riders than there may be, there are none. */
+static void read_rider(struct text *text, uint64_t j, uint64_t *value)
+{
+    uint64_t node, weight;
+
+    expect_item(text, "rider", j);
+    node = expect_number(text, "node", UINT64_MAX);
+    expect(text, ",");
+    weight = expect_number(text, "weight", UINT64_MAX);
+    expect_line_end(text);
+    if (j < TIVELGOR_MOST_RIDERS) {
+        value[TIVELGOR_AT_NODE(j)] = node;
+        value[TIVELGOR_AT_WEIGHT(j)] = weight;
+    }
+}
+
+static void write_request(struct text text, const char *name)
+{
+    uint64_t value[TIVELGOR_REQUEST_NUMBERS] = {0};
+    uint8_t room[TIVELGOR_LONGEST_REQUEST];
+    size_t length;
+    uint64_t j;
+
+    pass_blank_lines(&text);
+    value[TIVELGOR_AT_SOURCE] = expect_number(&text, "source", UINT64_MAX);
+    expect(&text, ",");
+    value[TIVELGOR_AT_TARGET] = expect_number(&text, "target", UINT64_MAX);
+    expect(&text, ",");
+    expect(&text, "bus");
+    value[TIVELGOR_AT_BUS_WEIGHT] = expect_number(&text, "weight", UINT64_MAX);
+    expect(&text, ",");
+    value[TIVELGOR_AT_RIDERS] = expect_number(&text, "riders", UINT64_MAX);
+    expect_line_end(&text);
+    for (j = 0; j < value[TIVELGOR_AT_RIDERS]; j++)
+        read_rider(&text, j, value);
+    expect_end(&text, "riders", j);
+    length = granted(tivelgor_write_request(TIVELGOR_MOST_NODES, value, TIVELGOR_REQUEST_NUMBERS, room, sizeof room));
+    write_file(name, room, length);
+}
+
+static void write_record(char **words)
+{
+    int of_network = is_network(words[0]);
+
+    if (!is(words[2], "-o"))
+        fail(words[2], "-o is expected in its place, and RECORD behind it");
+    if (of_network)
+        write_network(open_text(words[1]), words[3]);
+    else
+        write_request(open_text(words[1]), words[3]);
 }
 
 static void plan(char **words)
@@ -262,7 +396,7 @@ static void walk(char **words)
     size_t start = number(words[1], SIZE_MAX);
     unsigned node;
 
-    read_record(&network, words[0]);
+    read_file(&network, words[0]);
     granted(tivelgor_walk(network.bytes, network.length, start, distances, TIVELGOR_MOST_NODES));
     for (node = 0; node < field(&network, nodes_at); node++)
         if (distances[node] == TIVELGOR_NO_DISTANCE)
@@ -283,6 +417,15 @@ static const struct subcommand subcommands[] = {
      "A request is judged beside the largest network there can be, with 512 nodes and\n"
      "no link: all of it, except whether its nodes are in your network.\n",
      2, 0, show},
+    {"write", "network|request TEXT -o RECORD", "writes a record from the text that show prints",
+     "TEXT has the lines of show, which you may have edited: its words, numbers and\n"
+     "signs in their order, links and riders counted in the first line and numbered\n"
+     "from 0. A cost of -, or of 65535, closes a link to that use. Spaces and tabs may\n"
+     "stand between words, numbers and signs, and blank lines between lines. Where\n"
+     "something else is expected, its line is named, and the status is 2. RECORD is\n"
+     "opened only when all is right; if writing it fails then, it may be cut short. A\n"
+     "request is judged beside the largest network there can be, as with show.\n",
+     4, 0, write_record},
     {"plan", "NETWORK REQUEST", "finds the right plan: of least cost, then of fewest steps, then first by its steps",
      "Prints ok COST STEPS, and for each step drive LINK FROM TO or meet RIDER NODE\n"
      "DISTANCE, as the program plan does.\n",
@@ -306,11 +449,13 @@ static void help(void)
         printf("  tivelgor %s %s\n      %s\n", each->name, each->arguments, each->summary);
     printf("  tivelgor SUBCOMMAND --help\n      says more of it\n\n"
            "FILE, NETWORK and REQUEST are files with a record each, whose layout is in\n"
-           "docs/RULES.md. One of them may be -, which is standard input. A file of over\n"
-           "16 MiB is not read.\n\n"
+           "docs/RULES.md; TEXT is a file with what show prints. One of them may be -, which\n"
+           "is standard input. A file of over 16 MiB is not read. RECORD is the file that\n"
+           "is written; - is standard output.\n\n"
            "The status is 0 with an answer on standard output; 1 with a refusal on standard\n"
            "error, its number, its place and what they mean; 2 where the call was wrong, a\n"
-           "file could not be read, or the answer not be written.\n");
+           "file could not be read, a text is not as expected, or the answer could not be\n"
+           "written.\n");
 }
 
 static void run(const struct subcommand *called, int count, char **words)
@@ -340,7 +485,6 @@ int main(int count, char **words)
         help();
     else
         fail(words[1], "no such subcommand; tivelgor --help lists them");
-    if (fflush(stdout) != 0 || ferror(stdout))
-        fail("standard output", strerror(errno));
+    flush(stdout, "standard output");
     return 0;
 }

@@ -4,4 +4,5 @@ typedef __UINT16_TYPE__ uint16_t;
 typedef __UINT32_TYPE__ uint32_t;
 typedef __UINT64_TYPE__ uint64_t;
 #define UINT16_MAX 65535
+#define UINT64_MAX __UINT64_MAX__
 #define SIZE_MAX __SIZE_MAX__
