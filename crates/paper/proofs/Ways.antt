@@ -1,9 +1,10 @@
 -- Ways carried over from one kind of link to another.
 use Prim.Native.Nat.{ℕ, _+_, _≤_}
-use mathlib.Core.Path.{refl, sym, subst₂}
+use mathlib.Core.Path.{refl}
 use mathlib.Core.List.{List, _++_, List·Memᴰ, List·Memᴰ·head, List·Memᴰ·tail}
 use native.Mathlib.Omega.{arith}
 use Rattle.rules.specs.Walks.{Way, arrived, along}
+use Rattle.rules.proofs.WalkLaws.{way-append}
 use Rattle.paper.specs.Alike.{Within}
 
 module _ {Link Other : ℕ → ℕ → ℕ → ℕ → Type 0} where
@@ -20,10 +21,6 @@ module _ {Link Other : ℕ → ℕ → ℕ → ℕ → Type 0} where
 
 module _ {Link : ℕ → ℕ → ℕ → ℕ → Type 0} where
   -- One way behind another.
-  way-append : {u x v c d : ℕ} {links others : List ℕ} → Way Link x u links c → Way Link v x others d → Way Link v u (links ++ others) (c + d)
-  way-append {v} {others} (arrived here free) way = subst₂ (λ (y z : ℕ). Way Link v y others z) (sym here) (omega arith) way
-  way-append {c} {d} (along y w rest link way e) other = along {c = c + d} y w (rest + d) link (way-append way other) (omega arith)
-
   pub within-append : {u x v c d most : ℕ} → Within Link u x c → Within Link x v d → c + d ≤ most → Within Link u v most
   within-append a b e =
       record { links = a .links ++ b .links; sum = a .sum + b .sum; way = way-append (a .way) (b .way); cheap = omega arith }

@@ -11,12 +11,12 @@ use Rattle.rules.specs.Numbers.{number, bytesOf, twosOf}
 use Rattle.rules.specs.Network.{openingChecks, sizeChecks, networkChecks, networkVerdict, networkOf, LinkPart}
 use Rattle.rules.specs.Request.{countChecks, nodeChecks, weightChecks, requestChecks, requestVerdict, sevenPlaces, requestValue, noRequest, requestOf}
 use Rattle.rules.specs.Request.{ridersFrom}
-use Rattle.rules.specs.Answers.{refuses, verdictOutcome}
+use Rattle.rules.specs.Answers.{verdictOutcome}
 use Rattle.rules.specs.Town.{town, request, rider, caseA}
 use Rattle.rules.specs.declared.NetworkRead.{NetworkRead}
 use Rattle.rules.specs.declared.RequestRead.{RequestRead}
 use Rattle.rules.specs.declared.Verdict.the-variants.{Accepted, Refused}
-use Rattle.rules.proofs.AnswerLaws.{part-unique}
+use Rattle.rules.proofs.AnswerLaws.{part-unique, refuses-same}
 
 -- ---- any two results agree
 pub network-settled : (s : List ℕ) (a b : NetworkRead) → a ≡ networkOf s → b ≡ networkOf s → a ≡ b
@@ -49,9 +49,6 @@ pub request-read : requestOf town caseA ≡ readA 0
 unfolding networkChecks openingChecks sizeChecks number firstOf each
     requestOf requestVerdict requestChecks countChecks nodeChecks weightChecks requestValue sevenPlaces bytesOf twosOf ridersFrom
 request-read = refl
-
-refuses-same : {number other place elsewhere : ℕ} → refuses number place ≡ refuses other elsewhere → (number ≡ other) × (place ≡ elsewhere)
-refuses-same e = (cc, cc)
 
 -- ---- wrong answers to a network whose links 1 and 3 end at node 9
 abbrev pub badTown : List ℕ

@@ -1,28 +1,15 @@
--- The rider places of a request's value, and what a request gives once it is read.
-use Prim.Native.Nat.{ℕ, zero, suc, _+_, _≤_, _<_}
+-- What a request gives once it is read.
+use Prim.Native.Nat.{ℕ, _≤_}
 use native.Mathlib.Omega.{arith}
 use mathlib.Core.Path.{_≡_, refl, sym, _∙_}
 use mathlib.Core.List.{List}
-use lib.ListN.{set}
 use Rattle.rules.specs.Checks.{beside}
 use Rattle.rules.specs.Limits.{mostRiders}
-use Rattle.rules.specs.Request.{sevenPlaces, requestVerdict, requestValue, noRequest, requestOf, riderCountOf}
+use Rattle.rules.specs.Request.{requestVerdict, requestValue, noRequest, requestOf, riderCountOf}
 use Rattle.rules.specs.declared.RequestRead.{RequestRead}
 use Rattle.rules.specs.declared.Verdict.{Verdict}
 use Rattle.rules.specs.declared.Verdict.the-variants.{Accepted, Refused}
 use Rattle.rules.proofs.SoundRequestLaws.{records-sound}
-
--- one rider place more is used
-pub place-more : (value : ℕ → ℕ) (j : ℕ) → j < mostRiders → set (sevenPlaces value j) j (value j) ≡ sevenPlaces value (j + 1)
-unfolding sevenPlaces
-place-more value zero h = refl
-place-more value (suc zero) h = refl
-place-more value (suc (suc zero)) h = refl
-place-more value (suc (suc (suc zero))) h = refl
-place-more value (suc (suc (suc (suc zero)))) h = refl
-place-more value (suc (suc (suc (suc (suc zero))))) h = refl
-place-more value (suc (suc (suc (suc (suc (suc zero)))))) h = refl
-place-more value (suc (suc (suc (suc (suc (suc (suc j))))))) h = absurd (omega arith)
 
 -- what a read request says: its verdict, and beside an accepted one its value
 module _ (network s : List ℕ) {r : RequestRead} (is : r ≡ requestOf network s) where

@@ -5,7 +5,7 @@ use mathlib.Core.List.{List}
 use native.Mathlib.Omega.{arith}
 use denote.Ref.{RefT}
 use Rattle.rules.specs.Network.{Part}
-use Rattle.rules.specs.Answers.{Outcome, verdictOutcome, pricedOutcome, plannedOutcome, Walking, Walked, Pricing, refused, stranded}
+use Rattle.rules.specs.Answers.{Outcome, refuses, verdictOutcome, pricedOutcome, plannedOutcome, Walking, Walked, Pricing, refused, stranded}
 use Rattle.rules.specs.Answers.{priced, PricedRoute, Tablet, tabletNumber, Searching, hopeless, planned, Searched}
 use Rattle.rules.specs.declared.Refusal.{Refusal}
 use Rattle.rules.specs.declared.Request.{Request}
@@ -32,6 +32,10 @@ part-unique p r =
     let block = p .memory ∙ sym (r .memory) in
     let offset = p .place ∙ sym (r .place) in
     (λ i. (block i, offset i), cc)
+
+-- Two refusals that are one outcome have one number and one place.
+pub refuses-same : {number other place elsewhere : ℕ} → refuses number place ≡ refuses other elsewhere → (number ≡ other) × (place ≡ elsewhere)
+refuses-same e = (cc, cc)
 
 -- What an answer is in the rules' terms tells which answer it is.
 refusal-same : {r s : Refusal} → r .number ≡ s .number → r .place ≡ s .place → r ≡ s

@@ -1,11 +1,11 @@
 -- A request record is accepted exactly when it and its network record are sound.
-use Prim.Native.Nat.{ℕ, zero, suc, _≤_, _<_}
+use Prim.Native.Nat.{ℕ, zero, suc, _+_, _≤_, _<_}
 use native.Mathlib.Omega.{arith}
 use native.Mathlib.Nat.{zero-add}
 use mathlib.Core.Path.{_≡_, refl, _∙_}
 use mathlib.Core.Bool.{cond}
 use mathlib.Core.List.{List}
-use lib.ListN.{length, getD}
+use lib.ListN.{length, getD, set}
 use lib.Dec.{ltb}
 use borrow.Author.Tests.{ltb-false, leb-false, le-ltb, lt-ltb, lt-leb, eq-eqb}
 use Rattle.rules.specs.Checks.{firstOf}
@@ -150,6 +150,18 @@ place-used value used j h g = place-at value used j h ∙ simp (lt-ltb _ _ g)
 
 pub place-unused : (value : ℕ → ℕ) (used j : ℕ) → j < mostRiders → used ≤ j → getD (sevenPlaces value used) j 0 ≡ 0
 place-unused value used j h g = place-at value used j h ∙ simp (le-ltb _ _ g)
+
+-- one rider place more is used
+pub place-more : (value : ℕ → ℕ) (j : ℕ) → j < mostRiders → set (sevenPlaces value j) j (value j) ≡ sevenPlaces value (j + 1)
+unfolding sevenPlaces
+place-more value zero h = refl
+place-more value (suc zero) h = refl
+place-more value (suc (suc zero)) h = refl
+place-more value (suc (suc (suc zero))) h = refl
+place-more value (suc (suc (suc (suc zero)))) h = refl
+place-more value (suc (suc (suc (suc (suc zero))))) h = refl
+place-more value (suc (suc (suc (suc (suc (suc zero)))))) h = refl
+place-more value (suc (suc (suc (suc (suc (suc (suc j))))))) h = absurd (omega arith)
 
 -- the value of a sound request record is sound
 pub value-sound : (n : ℕ) (s : List ℕ) → SoundRequest n s → SoundValue n (requestValue s)

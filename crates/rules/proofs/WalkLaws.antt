@@ -1,9 +1,9 @@
 -- What a link gives that can be walked or driven, and that two nodes settle their walking distance. Whoever needs something of a
 -- walkable link asks here, so that what walking a link means can change in one place.
-use Prim.Native.Nat.{ℕ, _<_, _≤_}
-use mathlib.Core.Path.{_≡_, refl}
+use Prim.Native.Nat.{ℕ, _+_, _<_, _≤_}
+use mathlib.Core.Path.{_≡_, refl, sym, subst₂}
 use mathlib.Core.Logic.{_⊎_, inl, inr}
-use mathlib.Core.List.{List, []}
+use mathlib.Core.List.{List, [], _++_}
 use native.Mathlib.Decide.{ℕ-discrete, decLt}
 use native.Mathlib.Omega.{arith}
 use Rattle.rules.specs.Limits.{closed}
@@ -100,6 +100,12 @@ pub way-sum : {network : List ℕ} {cost : ℕ → ℕ} {u v x y c d : ℕ} {lin
     → c ≡ d
 way-sum (arrived _ c) (arrived _ d) = cc
 way-sum (along _ _ _ k rest c) (along _ _ _ l other d) = cc (way-sum rest other)
+
+-- One way behind another.
+pub way-append : {Link : ℕ → ℕ → ℕ → ℕ → Type 0} {u x v c d : ℕ} {links others : List ℕ} → Way Link x u links c → Way Link v x others d
+    → Way Link v u (links ++ others) (c + d)
+way-append {Link} {v = v} {others = others} (arrived here free) way = subst₂ (λ (y z : ℕ). Way Link v y others z) (sym here) (omega arith) way
+way-append {c = c} {d} (along y w rest link way e) other = along {c = c + d} y w (rest + d) link (way-append way other) (omega arith)
 
 -- There is at most one walking distance from a node to a node.
 pub distance-unique : {network : List ℕ} {u v d e : ℕ} → WalkingDistance network u v d → WalkingDistance network u v e → d ≡ e

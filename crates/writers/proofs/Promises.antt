@@ -13,7 +13,7 @@ use Rattle.rules.specs.Writing.{recordedOutcome, linkListChecks, networkNumberC
 use Rattle.rules.specs.Writing.{requestNumberChecks, RequestWritten}
 use Rattle.rules.specs.declared.Recorded.{Recorded}
 use Rattle.rules.specs.declared.Request.{Request}
-use Rattle.rules.proofs.AnswerLaws.{write-settled}
+use Rattle.rules.proofs.AnswerLaws.{write-settled, refuses-same}
 
 -- ---- any two results agree
 module _ {before a b : List ℕ} {x y : Recorded} where
@@ -53,9 +53,6 @@ badValue =
       weights = sevenPlaces (λ j. 0) 0;
     }
 
-number-same : {number other place elsewhere : ℕ} → refuses number place ≡ refuses other elsewhere → number ≡ other
-number-same e = cc
-
 pub not-the-node-first : {before after : List ℕ} → RequestWritten 5 badValue before after (refuses 82 0) → ⊥
 unfolding firstOf requestNumberChecks valueChecks
-not-the-node-first so = let same : _≡_ {A = ℕ} 82 81 = number-same (so .answers) in omega arith
+not-the-node-first so = let same : _≡_ {A = ℕ} 82 81 = refuses-same (so .answers) .0 in omega arith

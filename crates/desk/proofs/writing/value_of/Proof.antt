@@ -7,7 +7,7 @@ use borrow.Author.Needs.{needs}
 use Rattle.rules.specs.Limits.{mostRiders}
 use Rattle.rules.specs.Request.{sevenPlaces}
 use Rattle.rules.specs.Writing.{valueOf}
-use Rattle.records.proofs.RequestLaws.{place-more}
+use Rattle.rules.proofs.SoundRequestLaws.{place-more}
 use Rattle.desk.proofs.writing.value_of.Statement.{statement}
 use Rattle.desk.proofs.writing.value_of.Tie as tie
 

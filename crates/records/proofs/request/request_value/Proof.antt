@@ -4,7 +4,7 @@ use native.Mathlib.Omega.{arith}
 use mathlib.Core.Path.{_≡_, refl}
 use borrow.Author.Needs.{needs}
 use Rattle.rules.specs.Request.{riderNode, riderWeight, sevenPlaces, requestValue}
-use Rattle.records.proofs.RequestLaws.{place-more}
+use Rattle.rules.proofs.SoundRequestLaws.{place-more}
 use Rattle.records.proofs.request.request_value.Statement.{statement}
 use Rattle.records.proofs.request.request_value.Tie as tie
 
