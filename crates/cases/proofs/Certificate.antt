@@ -25,10 +25,11 @@ use Rattle.cases.proofs.Tests.{Test, atMost, below, equal, both, either
 -- ---- the ways to walk link k: a test of the start and the end of each, and of some
 module _ (network : List ℕ) (k : ℕ) (test : ℕ → ℕ → Test) where
   abbrev pub eachWay : Test
-  eachWay = implies (below (walk network k) closed) (test (from network k) (to network k))
+  eachWay =
+      implies (below (walk network k) closed) (both (test (from network k) (to network k)) (test (to network k) (from network k)))
 
   abbrev pub someWay : Test
-  someWay = both (below (walk network k) closed) (test (from network k) (to network k))
+  someWay = both (below (walk network k) closed) (either (test (from network k) (to network k)) (test (to network k) (from network k)))
 
 -- ---- walking distances from a start: d v is the one to v
 module _ (network : List ℕ) (d : ℕ → ℕ) where

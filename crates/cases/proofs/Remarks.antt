@@ -11,7 +11,7 @@ use Rattle.rules.specs.Rooms.{HoldsFinish, Lent}
 use Rattle.rules.specs.Answers.{Outcome, gives, Searched}
 use Rattle.rules.specs.Town.{town, caseA}
 use Rattle.cases.specs.Cases.{asked}
-use Rattle.cases.specs.TownRows.{rowA, rowD}
+use Rattle.cases.specs.TownRows.{rowA, rowD, rowK}
 use Rattle.cases.specs.Searches.{EnoughFor, leaves}
 use Rattle.cases.proofs.Certificate.{pricedAt}
 use Rattle.cases.proofs.CaseLaws.{case-priced}
@@ -54,3 +54,8 @@ price-in-A = case-priced (town-holds 0) (2 ∷ 3 ∷ []) (1 ∷ []) refl
 pub price-in-D : Price town (asked rowD) (2 ∷ 7 ∷ 5 ∷ 3 ∷ []) (2 ∷ []) 22
 unfolding pricedAt
 price-in-D = case-priced (town-holds 3) (2 ∷ 7 ∷ 5 ∷ 3 ∷ []) (2 ∷ []) refl
+
+-- Where the bus stays, the rider of case K walks to it for 18.
+pub price-in-K : Price town (asked rowK) [] (0 ∷ []) 18
+unfolding pricedAt
+price-in-K = case-priced (town-holds 10) [] (0 ∷ []) refl

@@ -18,9 +18,9 @@ use Rattle.rules.proofs.PlanLaws.{right-plan-unique}
 use Rattle.right.specs.Steps.{drivesOf}
 use Rattle.cases.specs.Cases.{plan, none, asked}
 use Rattle.cases.specs.Searches.{EnoughFor, zeros, SearchedCase, Fails, Planner, replyAt, Answers, Keeps, NoNodeTwice, EndsAtTarget}
-use Rattle.cases.specs.TownRows.{rowA, rowB, rowC, rowF, rowJ}
+use Rattle.cases.specs.TownRows.{rowA, rowB, rowC, rowF, rowJ, rowK}
 use Rattle.cases.specs.OwnRows.{beyondTarget, twoLinks, nearTwice, oneForTwo, offTheRoad, wideCosts, closedWalk, wallOpened}
-use Rattle.cases.specs.OwnRows.{freeCircle, selfLink, cheaperSecond}
+use Rattle.cases.specs.OwnRows.{freeCircle, selfLink, cheaperSecond, upTheStreet, upAndDown}
 use Rattle.cases.proofs.Certificate.{pricedAt}
 use Rattle.cases.proofs.CaseLaws.{case-priced}
 use Rattle.cases.proofs.SearchLaws.{zeros-enough, searched-case, fails}
@@ -101,7 +101,7 @@ invents-the-count cost count other before after enough s =
     let right = searched-case (town-holds 0) enough s .1 in
     other (cc)
 
--- ---- wrong plans seen on desks
+-- ---- wrong plans of desks
 -- Through the wall, where only walkers may go, at what it costs them (7.1). It is right where the wall is open, by a case of our own.
 pub drives-through-the-wall : Fails rowB (wallOpened .result)
 drives-through-the-wall = fails (wallOpened .result) (town-holds 1) (λ e. clash (cc))
@@ -143,6 +143,14 @@ forbids-repeated-nodes-J right once =
 -- No plan where the rider's own node is out of the bus's reach (7.5).
 pub gives-the-rider-up : Fails offTheRoad none
 gives-the-rider-up = fails none (own-holds 4) (λ e. clash (cc))
+
+-- Nobody walks up a one-way street (7.6): in case K the rider would be out of reach.
+pub walks-one-way : Fails rowK none
+walks-one-way = fails none (town-holds 10) (λ e. clash (cc))
+
+-- The bus drives up one-way streets, as people walk (7.7): in case F along links 1 and 0.
+pub drives-either-way : Fails rowF (plan 6 (9 ∷ 8 ∷ []))
+drives-either-way = fails (plan 6 (9 ∷ 8 ∷ [])) (town-holds 5) (λ e. clash (cc))
 
 -- ---- planners that get all of A to K right
 -- Never driving on from the target: with no plan, or with one that ends where it first reaches the target.
@@ -200,3 +208,10 @@ drives-the-first-link cost = fails (plan cost (8 ∷ 0 ∷ [])) (own-holds 10) (
 
 pub walks-the-first-link : Fails cheaperSecond (plan 9 (9 ∷ 0 ∷ []))
 walks-the-first-link = fails (plan 9 (9 ∷ 0 ∷ [])) (own-holds 10) (λ e. clash (cc))
+
+-- Walking up a street only where no walk leads down, for 5 instead of 1; or never up and down on one walk.
+pub walks-down-first : Fails upTheStreet (plan 6 (8 ∷ 0 ∷ []))
+walks-down-first = fails (plan 6 (8 ∷ 0 ∷ [])) (own-holds 11) (λ e. clash (cc))
+
+pub never-turns-on-a-walk : Fails upAndDown none
+never-turns-on-a-walk = fails none (own-holds 12) (λ e. clash (cc))

@@ -101,7 +101,7 @@ wallOpened =
           ++ link 2 4 1 6);
       request = request 0 3 1 (rider 4 10);
       result = plan 10 (8 ∷ 14 ∷ 0 ∷ 12 ∷ 9 ∷ []);
-      distances = noDistance ∷ 2 ∷ 6 ∷ 11 ∷ 0 ∷ [];
+      distances = 11 ∷ 2 ∷ 6 ∷ 11 ∷ 0 ∷ [];
       table = pack 6 2 ∷ pack 3 1 ∷ pack 4 1 ∷ 0 ∷ pack 5 2 ∷ pack 10 5 ∷ pack 7 4 ∷ pack 6 4 ∷ pack 110 1 ∷ pack 5 3 ∷ [];
     }
 
@@ -139,6 +139,29 @@ cheaperSecond =
       table = pack 2 1 ∷ 0 ∷ noFinish ∷ pack 6 2 ∷ pack 4 1 ∷ noFinish ∷ [];
     }
 
+-- To where the bus comes by the rider walks up one street for less than down the other: who walks up a street only where no walk leads
+-- down pays for the longer one.
+abbrev pub upTheStreet : Case
+upTheStreet =
+    record {
+      network = networkRecord 3 (link 0 1 1 closed ++ link 1 2 closed 1 ++ link 2 1 closed 5);
+      request = request 0 1 1 (rider 2 1);
+      result = plan 2 (8 ∷ 0 ∷ []);
+      distances = noDistance ∷ 1 ∷ 0 ∷ [];
+      table = pack 1 1 ∷ 0 ∷ noFinish ∷ pack 2 2 ∷ pack 1 1 ∷ noFinish ∷ [];
+    }
+
+-- The rider walks up a street, down the next and up a third: a walk that is wholly up or wholly down leads to no bus.
+abbrev pub upAndDown : Case
+upAndDown =
+    record {
+      network = networkRecord 4 (link 1 0 1 2 ++ link 1 2 1 3 ++ link 3 2 1 4);
+      request = request 3 3 1 (rider 0 1);
+      result = plan 9 (0 ∷ []);
+      distances = 0 ∷ 2 ∷ 5 ∷ 9 ∷ [];
+      table = noFinish ∷ noFinish ∷ noFinish ∷ 0 ∷ noFinish ∷ noFinish ∷ noFinish ∷ pack 9 1 ∷ [];
+    }
+
 abbrev pub ownRows : List Case
 ownRows =
     beyondTarget
@@ -152,4 +175,6 @@ ownRows =
     ∷ freeCircle
     ∷ selfLink
     ∷ cheaperSecond
+    ∷ upTheStreet
+    ∷ upAndDown
     ∷ []

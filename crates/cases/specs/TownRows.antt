@@ -2,7 +2,6 @@
 use mathlib.Core.List.{List, [], _∷_, _++_}
 use Prim.Native.Nat.{ℕ}
 use Rattle.rules.specs.Limits.{pack}
-use Rattle.rules.specs.Walks.{noDistance}
 use Rattle.rules.specs.Rooms.{noFinish}
 use Rattle.rules.specs.Town.{town, request, rider}
 use Rattle.cases.specs.Cases.{Result, plan, none, Case}
@@ -13,10 +12,10 @@ inTown request result distances table =
 
 -- the walking distances of a rider at 4, and of one at 3
 abbrev walksFrom4 : List ℕ
-walksFrom4 = noDistance ∷ 2 ∷ 6 ∷ 11 ∷ 0 ∷ []
+walksFrom4 = 11 ∷ 2 ∷ 6 ∷ 11 ∷ 0 ∷ []
 
 abbrev walksFrom3 : List ℕ
-walksFrom3 = noDistance ∷ noDistance ∷ noDistance ∷ 0 ∷ noDistance ∷ []
+walksFrom3 = 18 ∷ 9 ∷ 9 ∷ 0 ∷ 11 ∷ []
 
 -- the row of nobody, for the target 3 and a bus of weight 1, and for the target 0
 abbrev drivesTo3 : List ℕ
@@ -101,12 +100,12 @@ rowJ =
     ∷ pack 10 3 ∷ pack 7 2 ∷ pack 6 4 ∷ pack 22 1 ∷ pack 5 3
     ∷ pack 11 6 ∷ pack 9 3 ∷ pack 6 5 ∷ pack 33 2 ∷ pack 5 4 ∷ [])
 
--- case K: nowhere to go, and a rider who can't walk there
+-- case K: nowhere to go, and a rider who walks there up two links
 abbrev pub rowK : Case
 rowK =
-    inTown (request 0 0 1 (rider 3 1)) none
+    inTown (request 0 0 1 (rider 3 1)) (plan 18 (0 ∷ []))
     walksFrom3
-    (drivesTo0 ++ noFinish ∷ noFinish ∷ noFinish ∷ noFinish ∷ noFinish ∷ [])
+    (drivesTo0 ++ pack 18 1 ∷ noFinish ∷ noFinish ∷ noFinish ∷ noFinish ∷ [])
 
 abbrev pub townRows : List Case
 townRows = rowA ∷ rowB ∷ rowC ∷ rowD ∷ rowE ∷ rowF ∷ rowG ∷ rowH ∷ rowI ∷ rowJ ∷ rowK ∷ []

@@ -1,7 +1,7 @@
 -- Whether a number is the walking distance can be decided, and where there is a walk there is one.
 use Prim.Native.Nat.{ℕ, zero, suc, _+_, _-_, _<_}
 use mathlib.Core.Path.{_≡_, refl}
-use mathlib.Core.Logic.{_⊎_, inl, inr, ⊎-elim}
+use mathlib.Core.Logic.{_⊎_, inl, inr, ⊎-elim, Dec·and}
 use mathlib.Core.List.{List}
 use native.Mathlib.Decide.{ℕ-discrete, decLt}
 use native.Mathlib.Omega.{arith}
@@ -10,10 +10,10 @@ use Rattle.rules.specs.Request.{riderCountOf, SoundValue}
 use Rattle.rules.specs.Walks.{Walkable, Walk, WalkingDistance}
 use Rattle.rules.specs.Routes.{RiderWalks}
 use Rattle.rules.specs.declared.Request.{Request}
-use Rattle.rules.proofs.WalkLaws.{walk-joins, dec-walk-on, distance-unique}
-use Rattle.least.specs.Trips.{Trip, done, step, arcCount, At, Inside}
-use Rattle.least.specs.WalkTrips.{Linked}
-use Rattle.least.proofs.WalkTrips.{way-trip, trip-way}
+use Rattle.rules.proofs.WalkLaws.{walk-exists, dec-walk-on, distance-unique}
+use Rattle.least.specs.Trips.{done, step, arcCount}
+use Rattle.least.specs.WalkTrips.{WalkTrip}
+use Rattle.least.proofs.WalkTrips.{way-trip, trip-way, inside}
 use Rattle.least.proofs.Shortening.{shortened}
 
 -- The lowest number with P below a bound.
@@ -47,7 +47,7 @@ module _ {network : List ℕ} (sound : SoundNetwork network) (v : ℕ) where
   -- A walk from u to v of fewer than `most` links and a sum below b.
   record Short (most u b : ℕ) : Type 0 where
     sum : ℕ
-    trip : Trip (Linked (Walkable network)) (At v) u sum
+    trip : WalkTrip network v u sum
     few : arcCount trip < most
     below : sum < b
 
@@ -56,12 +56,12 @@ module _ {network : List ℕ} (sound : SoundNetwork network) (v : ℕ) where
   By most u b k = (x w : ℕ) × Walkable network k u x w × Short most x (b - w)
 
   -- A walk of fewer than one link more has no link at all, or a first one.
-  split : {most u b sum : ℕ} (t : Trip (Linked (Walkable network)) (At v) u sum) → arcCount t < suc most → sum < b
+  split : {most u b sum : ℕ} (t : WalkTrip network v u sum) → arcCount t < suc most → sum < b
       → ((u ≡ v) × (0 < b)) ⊎ ((k : ℕ) × (k < linkCount network) × By most u b k)
   unfolding arcCount
   split (done i) few below = inl (i .0, omega arith)
   split (step x w rest (k, link) t e) few below =
-      inr (k, walk-joins sound link .exists, (x, w, link, record { sum = rest; trip = t; few = omega arith; below = omega arith }))
+      inr (k, walk-exists link, (x, w, link, record { sum = rest; trip = t; few = omega arith; below = omega arith }))
 
   here : {most u b : ℕ} → u ≡ v → 0 < b → Short (suc most) u b
   unfolding arcCount
@@ -78,10 +78,7 @@ module _ {network : List ℕ} (sound : SoundNetwork network) (v : ℕ) where
       }
 
   dec-here : (u b : ℕ) → Dec ((u ≡ v) × (0 < b))
-  dec-here u b = elim (ℕ-discrete u v) [
-    | yes e ↦ elim (decLt 0 b) [ yes h ↦ yes (e, h) | no h ↦ no (λ p. h (p .1)) ]
-    | no h ↦ no (λ p. h (p .0))
-  ]
+  dec-here u b = Dec·and (ℕ-discrete u v) (decLt 0 b)
 
   dec-short : (most u b : ℕ) → Dec (Short most u b)
   dec-short zero u b = no (λ r. omega (arith, r .few))
@@ -95,10 +92,9 @@ module _ {network : List ℕ} (sound : SoundNetwork network) (v : ℕ) where
 
   module _ {u : ℕ} (h : u < nodeCount network) where
     -- Some walk has fewer than n links and no greater sum.
-    short : {sum b : ℕ} → Trip (Linked (Walkable network)) (At v) u sum → sum < b → Short (nodeCount network) u b
+    short : {sum b : ℕ} → WalkTrip network v u sum → sum < b → Short (nodeCount network) u b
     short t below =
-        let inside : Inside (nodeCount network) (Linked (Walkable network)) = λ u x w g a. walk-joins sound (a .1) .end in
-        let s = shortened inside h t in
+        let s = shortened (inside sound) h t in
         record { sum = s .sum; trip = s .trip; few = s .short; below = omega arith }
 
     -- The sum of a walk is the distance where no walk has a lower one.

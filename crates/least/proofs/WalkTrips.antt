@@ -1,18 +1,16 @@
 -- Walks are trips, and walking distances their least sums.
-use Prim.Native.Nat.{ℕ, _+_, _-_, _≤_, _<_}
-use mathlib.Core.Path.{refl, subst, subst₂}
+use Prim.Native.Nat.{ℕ, _-_, _≤_, _<_}
 use mathlib.Core.Logic.{inl, inr}
 use mathlib.Core.List.{List, [], _∷_}
-use native.Mathlib.Nat.{add-zero}
 use native.Mathlib.Decide.{decLt}
 use native.Mathlib.Omega.{arith}
 use Rattle.rules.specs.Limits.{closed}
 use Rattle.rules.specs.Network.{SoundNetwork, nodeCount}
 use Rattle.rules.specs.Walks.{Way, arrived, along, Walk, WalkingDistance, HoldsDistance, noDistance}
-use Rattle.rules.proofs.WalkLaws.{walk-joins}
-use Rattle.least.specs.Trips.{Arcs, Trip, done, step, At, Inside, Turned}
+use Rattle.rules.proofs.WalkLaws.{walk-joins, return-walk}
+use Rattle.least.specs.Trips.{Arcs, Trip, done, step, At, Inside}
 use Rattle.least.specs.Least.{Least}
-use Rattle.least.specs.WalkTrips.{Linked, WalkBack, WalkTrip, longestWalk}
+use Rattle.least.specs.WalkTrips.{Linked, WalkArcs, WalkTrip, longestWalk}
 use Rattle.least.proofs.Shortening.{bounded}
 
 module _ {Link : ℕ → Arcs} where
@@ -27,30 +25,18 @@ module _ {Link : ℕ → Arcs} where
       let (links, way) = trip-way t in
       (a .0 ∷ links, along x w rest (a .1) way e)
 
-module _ {Arc : Arcs} where
-  -- The arcs of one trip, turned, go in front of another.
-  before : {u v start sum rest : ℕ} → Trip Arc (At v) u sum → Trip (Turned Arc) (At start) u rest
-      → Trip (Turned Arc) (At start) v (sum + rest)
-  before {start = start} (done i) s = subst₂ (Trip (Turned Arc) (At start)) (i .0) (omega arith) s
-  before {u} {v} {start} {rest = rest} (step x w c a t e) s =
-      subst (Trip (Turned Arc) (At start) v) (omega arith) (before t (step u w rest a s refl))
-
-  -- A trip to v, gone backwards.
-  pub turned : {u v sum : ℕ} → Trip Arc (At v) u sum → Trip (Turned Arc) (At u) v sum
-  turned {sum = sum} t = rw (← add-zero sum) (before t (done (refl, refl)))
-
 module _ {network : List ℕ} {start v : ℕ} where
   -- A walk is a trip back to its start.
   pub walk-trip : {sum : ℕ} {links : List ℕ} → Walk network start v links sum → WalkTrip network start v sum
-  walk-trip walk = turned (way-trip walk)
+  walk-trip walk = way-trip (return-walk walk .1)
 
   pub trip-walk : {sum : ℕ} → WalkTrip network start v sum → (links : List ℕ) × Walk network start v links sum
-  trip-walk t = trip-way (turned t)
+  trip-walk t = return-walk (trip-way t .1)
 
 module _ {network : List ℕ} (sound : SoundNetwork network) where
   -- Walks stay among the nodes.
-  pub inside : Inside (nodeCount network) (WalkBack network)
-  inside u v w h a = walk-joins sound (a .1) .start
+  pub inside : Inside (nodeCount network) (WalkArcs network)
+  inside u v w h a = walk-joins sound (a .1) .end
 
   module _ {start v : ℕ} (h : v < nodeCount network) where
     -- What is at most every walk's sum is at most what fewer links than nodes can cost.

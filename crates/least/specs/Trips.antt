@@ -34,10 +34,6 @@ At node u c = (u ≡ node) × (c ≡ 0)
 abbrev pub Inside : ℕ → Arcs → Type 0
 Inside n Arc = (u v w : ℕ) → u < n → Arc u v w → v < n
 
--- Arcs with head and tail swapped.
-abbrev pub Turned : Arcs → Arcs
-Turned Arc u v w = Arc v u w
-
 -- A trip from u of fewer than n arcs, whose sum and number of arcs are at most those given.
 pub record Shortened (Arc : Arcs) (Init : Inits) (n u most count : ℕ) : Type 0 where
   pub sum : ℕ

@@ -42,10 +42,10 @@ module _ {network : List ℕ} (two : TwoWay network) {q : Request} {route : List
       record {
         meeting = nodeAt network (q .source) route position;
         passed = position-passed network (q .source) route position (m .within);
-        reached = rider-dist two q j .0 (m .walks);
+        reached = rider-dist q j .0 (m .walks);
         least = λ v e on dist.
             let (other, within, is) = passed-position network (q .source) route on in
-            m .least other e within (rw is at (rider-dist two q j .1 dist));
+            m .least other e within (rw is at (rider-dist q j .1 dist));
       }
 
   -- .. and a rider at such a distance has a meeting position.
@@ -54,7 +54,7 @@ module _ {network : List ℕ} (two : TwoWay network) {q : Request} {route : List
       → (p : ℕ) × Meeting network q route j p d
   near-meeting {j} {d} sound value h near =
       let (position, within, is) = passed-position network (q .source) route (near .passed) in
-      let walks : RiderWalks network q j (nodeAt network (q .source) route position) d = rw is at (rider-dist two q j .1 (near .reached)) in
+      let walks : RiderWalks network q j (nodeAt network (q .source) route position) d = rw is at (rider-dist q j .1 (near .reached)) in
       let (e, (p, m)) = nearest sound value route h (record { position = position; distance = d; within = within; walks = walks }) in
       let same : e ≡ d = near-unique (meeting-near m) near in
       (p, rw same at m)

@@ -10,7 +10,7 @@ use Rattle.rules.specs.Network.{linkCount, walk}
 use Rattle.rules.specs.Walks.{arrived, along, Walk, Walkable, WalkingDistance}
 use Rattle.rules.specs.Routes.{RiderWalks}
 use Rattle.rules.specs.declared.Request.{Request}
-use Rattle.rules.proofs.WalkLaws.{walk-exists, walk-costs, walk-alike}
+use Rattle.rules.proofs.WalkLaws.{walk-exists, walk-costs, walk-alike, way-one}
 use Rattle.paper.specs.Alike.{SameLinks, SameWalking, SameButWalk, Within, Besides, Needless}
 use Rattle.paper.proofs.Ways.{way-same, within-append, within-same}
 
@@ -70,7 +70,7 @@ module _ {network : List ℕ} {k : ℕ} (needless : Needless network k) where
   -- A needless link has other links in its place ..
   replaced : {l u v w : ℕ} → Walkable network l u v w → Within (Besides network k) u v w
   replaced {l} {u} {v} {w} link = elim (ℕ-discrete l k) [
-    | no other ↦ record { links = l ∷ []; sum = w; way = along {c = w} v w 0 (other, link) (arrived refl refl) (omega arith); cheap = le-refl w }
+    | no other ↦ record { links = l ∷ []; sum = w; way = way-one (other, link); cheap = le-refl w }
     | yes same ↦ needless u v w (rw same at link)
   ]
 

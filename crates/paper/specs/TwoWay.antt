@@ -1,20 +1,20 @@
 -- The networks and requests that source document 000 is about: each link has one back, bus and walkers pay the same for it, and riders
--- are of one weight. There the price is the paper's f, in whole numbers.
-use Prim.Native.Nat.{ℕ, _+_, _<_}
+-- are of one weight. There the price is the paper's f, in whole numbers. And what walking one way only would be.
+use Prim.Native.Nat.{ℕ, _+_, _<_, _≤_}
 use mathlib.Core.Path.{_≡_}
 use mathlib.Core.Logic.{_⊎_, ⊎-swap}
 use mathlib.Core.List.{List, [], _∷_, map}
 use native.Mathlib.Omega.{arith}
 use Rattle.rules.specs.Network.{linkCount, from, to, drive, walk}
 use Rattle.rules.specs.Request.{riderNodeOf, riderWeightOf, riderCountOf, busWeightOf}
-use Rattle.rules.specs.Walks.{Way, arrived, along, Walkable}
+use Rattle.rules.specs.Walks.{Leads, Way, arrived, along, Walkable}
 use Rattle.rules.specs.declared.Request.{Request}
 use Rattle.rules.specs.Limits.{closed}
 use Rattle.paper.specs.Fraction.{Fraction, times, IsWhole}
 use Rattle.paper.specs.Problem.{Graph, Query}
 use Rattle.paper.specs.Prices.{HasPrice}
 
--- a link back, at the same cost
+-- a link back that costs walkers the same
 pub record Back (network : List ℕ) (k : ℕ) : Type 0 where
   pub link : ℕ
   pub exists : link < linkCount network
@@ -22,20 +22,30 @@ pub record Back (network : List ℕ) (k : ℕ) : Type 0 where
   pub ends : to network link ≡ from network k
   pub costs : walk network link ≡ walk network k
 
+-- Every link that is open to walkers has one back.
+abbrev pub BothWays : List ℕ → Type 0
+BothWays network = (k : ℕ) → k < linkCount network → walk network k < closed → Back network k
+
+-- A walk that goes every link the way it leads,
+abbrev pub OneWayWalk : List ℕ → ℕ → ℕ → List ℕ → ℕ → Type 0
+OneWayWalk network u v links sum = Way (Leads network (walk network)) v u links sum
+
+-- and the walking distance if there were no others.
+abbrev pub OneWayDistance : List ℕ → ℕ → ℕ → ℕ → Type 0
+OneWayDistance network u v d =
+    ((links : List ℕ) × OneWayWalk network u v links d) × ((links : List ℕ) (sum : ℕ) → OneWayWalk network u v links sum → d ≤ sum)
+
 -- A link that is open to the bus or to walkers costs both the same, and there is a link back.
 pub record TwoWay (network : List ℕ) : Type 0 where
   pub alike : (k : ℕ) → k < linkCount network → (drive network k < closed) ⊎ (walk network k < closed)
       → drive network k ≡ walk network k
-  pub back : (k : ℕ) → k < linkCount network → walk network k < closed → Back network k
+  pub back : BothWays network
 
--- The graph of such a network: each open link is an edge, which may be taken either way.
+-- The graph of a network: each link that can be walked is an edge.
 unfoldable pub graphOf : List ℕ → Graph
 unfolding ⊎-swap
 graphOf network =
-    record {
-      Edge = λ u v w. (k : ℕ) × (Walkable network k u v w ⊎ Walkable network k v u w);
-      undirected = λ u v w edge. (edge .0, ⊎-swap (edge .1));
-    }
+    record { Edge = λ u v w. (k : ℕ) × Walkable network k u v w; undirected = λ u v w edge. (edge .0, ⊎-swap (edge .1)) }
 
 -- The bus weighs a, every rider w.
 pub record EqualWeights (q : Request) (w : ℕ) : Type 0 where

@@ -1,14 +1,14 @@
 -- What a link gives that can be walked or driven, and that two nodes settle their walking distance. Whoever needs something of a
 -- walkable link asks here, so that what walking a link means can change in one place.
 use Prim.Native.Nat.{ℕ, _+_, _<_, _≤_}
-use mathlib.Core.Path.{_≡_, refl, sym, subst₂}
-use mathlib.Core.Logic.{_⊎_, inl, inr}
-use mathlib.Core.List.{List, [], _++_}
+use mathlib.Core.Path.{_≡_, refl, sym, subst, subst₂}
+use mathlib.Core.Logic.{_⊎_, inl, inr, ⊎-elim, ⊎-swap, Dec·and}
+use mathlib.Core.List.{List, [], _∷_, _++_}
 use native.Mathlib.Decide.{ℕ-discrete, decLt}
 use native.Mathlib.Omega.{arith}
 use Rattle.rules.specs.Limits.{closed}
 use Rattle.rules.specs.Network.{SoundNetwork, nodeCount, linkCount, from, to, walk}
-use Rattle.rules.specs.Walks.{Leads, Way, arrived, along, Walkable, WalkingDistance, noDistance, HoldsDistance}
+use Rattle.rules.specs.Walks.{Leads, Way, arrived, along, Walkable, Walk, WalkingDistance, noDistance, HoldsDistance}
 
 -- Link k of the network joins the nodes u and v, at the cost w.
 pub record Joins (network : List ℕ) (k u v w : ℕ) : Type 0 where
@@ -30,46 +30,65 @@ leads-joins {k = k} sound l =
 module _ {network : List ℕ} {k u v w : ℕ} where
   -- A link that is open to walkers can be walked the way it leads,
   pub walk-along : Leads network (walk network) k u v w → Walkable network k u v w
-  walk-along l = l
+  walk-along l = inl l
+
+  -- can be walked back wherever it can be walked,
+  pub walk-back : Walkable network k u v w → Walkable network k v u w
+  walk-back l = ⊎-swap l
 
   -- exists and joins two nodes,
   pub walk-exists : Walkable network k u v w → k < linkCount network
-  walk-exists l = l .exists
+  walk-exists (inl there) = there .exists
+  walk-exists (inr back) = back .exists
 
   pub walk-joins : SoundNetwork network → Walkable network k u v w → Joins network k u v w
-  walk-joins sound l = leads-joins sound l
+  walk-joins sound (inl there) = leads-joins sound there
+  walk-joins sound (inr back) =
+      let j = leads-joins sound back in
+      record { exists = j .exists; start = j .end; end = j .start; cheap = j .cheap }
 
   -- costs what it costs to walk,
   pub walk-costs : Walkable network k u v w → walk network k ≡ w
-  walk-costs l = l .costs
+  walk-costs (inl there) = there .costs
+  walk-costs (inr back) = back .costs
 
-  -- leads there or back,
-  pub walk-leads : Walkable network k u v w → Leads network (walk network) k u v w ⊎ Leads network (walk network) k v u w
-  walk-leads l = inl l
-
-  -- and what holds of the way it leads holds of each way it can be walked.
+  -- and what holds of the way it leads and of the way back holds of each way it can be walked.
   pub walk-either : (P : ℕ → ℕ → Type 0)
-      → (k < linkCount network → walk network k < closed → P (from network k) (to network k))
+      → (k < linkCount network → walk network k < closed → P (from network k) (to network k) × P (to network k) (from network k))
       → Walkable network k u v w
       → P u v
-  walk-either P there l = rw (l .starts, l .ends) at (there (l .exists) (rw (l .costs) (l .opened)))
+  walk-either P ways (inl l) = rw (l .starts, l .ends) at (ways (l .exists) (rw (l .costs) (l .opened)) .0)
+  walk-either P ways (inr l) = rw (l .starts, l .ends) at (ways (l .exists) (rw (l .costs) (l .opened)) .1)
 
--- Whether link k can be walked from u to some end, at some cost, with P.
-pub dec-walk-on : (network : List ℕ) {P : ℕ → ℕ → Type 0} → ((x w : ℕ) → Dec (P x w))
-    → (k u : ℕ) → Dec ((x w : ℕ) × Walkable network k u x w × P x w)
-dec-walk-on network {P} dec k u = elim (decLt k (linkCount network)) [
-  | no h ↦ no (λ (x, w, l, p). h (l .exists))
-  | yes exists ↦ elim (ℕ-discrete (from network k) u) [
-    | no h ↦ no (λ (x, w, l, p). h (l .starts))
-    | yes starts ↦ elim (decLt (walk network k) closed) [
-      | no h ↦ no (λ (x, w, l, p). h (rw (l .costs) (l .opened)))
-      | yes opened ↦ elim (dec (to network k) (walk network k)) [
-        | no h ↦ no (λ (x, w, l, p). h (rw (l .ends, l .costs) p))
-        | yes p ↦ yes (to network k, walk network k, record { exists = exists; starts = starts; ends = refl; costs = refl; opened = opened }, p)
-      ]
+-- What holds of one way to walk a link and of the way back holds of each.
+pub walk-each : {network : List ℕ} {k u v w x y z : ℕ} (P : ℕ → ℕ → Type 0) → Walkable network k u v w → P u v → P v u
+    → Walkable network k x y z → P x y
+walk-each P link there back other =
+    walk-either P
+    (λ _ _. ⊎-elim (λ l. rw (l .starts, l .ends) (there, back)) (λ l. rw (l .starts, l .ends) (back, there)) link)
+    other
+
+module _ (network : List ℕ) {P : ℕ → ℕ → Type 0} (dec : (x w : ℕ) → Dec (P x w)) (k : ℕ) where
+  -- Whether link k is open to walkers, with u at one end and P at the other,
+  dec-open : (u end other : ℕ) → Dec (((k < linkCount network) × (walk network k < closed)) × ((end ≡ u) × P other (walk network k)))
+  dec-open u end other =
+      Dec·and (Dec·and (decLt k (linkCount network)) (decLt (walk network k) closed))
+      (Dec·and (ℕ-discrete end u) (dec other (walk network k)))
+
+  -- and so whether it can be walked from u to some end, at some cost, with P.
+  pub dec-walk-on : (u : ℕ) → Dec ((x w : ℕ) × Walkable network k u x w × P x w)
+  dec-walk-on u = elim (dec-open u (from network k) (to network k)) [
+    | yes ((exists, opened), (starts, p)) ↦
+        yes (_, _, inl (record { exists = exists; starts = starts; ends = refl; costs = refl; opened = opened }), p)
+    | no h ↦ elim (dec-open u (to network k) (from network k)) [
+      | yes ((exists, opened), (ends, p)) ↦
+          yes (_, _, inr (record { exists = exists; starts = refl; ends = ends; costs = refl; opened = opened }), p)
+      | no g ↦ no (λ (x, w, l, p).
+          ⊎-elim (λ l. h ((l .exists, rw (l .costs) (l .opened)), (l .starts, rw (l .ends, l .costs) p)))
+          (λ l. g ((l .exists, rw (l .costs) (l .opened)), (l .ends, rw (l .starts, l .costs) p)))
+          l)
     ]
   ]
-]
 
 -- A link that is alike in two networks leads alike.
 pub leads-same : {a b : List ℕ} {cost other : ℕ → ℕ} {k u v w : ℕ}
@@ -90,8 +109,10 @@ pub walk-alike : {a b : List ℕ} {k u v w : ℕ}
     → walk b k ≤ walk a k
     → Walkable a k u v w
     → Walkable b k u v (walk b k)
-walk-alike count starts ends less l =
-    record { exists = omega (arith, l .exists); starts = cc; ends = cc; costs = refl; opened = omega (arith, l .opened, l .costs) }
+walk-alike {a} {b} {k} count starts ends less link = ⊎-elim (λ l. inl (alike l)) (λ l. inr (alike l)) link
+  where
+    alike : {u v w : ℕ} → Leads a (walk a) k u v w → Leads b (walk b) k u v (walk b k)
+    alike l = record { exists = omega (arith, l .exists); starts = cc; ends = cc; costs = refl; opened = omega (arith, l .opened, l .costs) }
 
 -- The costs of one list of links add up to one sum, wherever it starts.
 pub way-sum : {network : List ℕ} {cost : ℕ → ℕ} {u v x y c d : ℕ} {links : List ℕ}
@@ -101,11 +122,32 @@ pub way-sum : {network : List ℕ} {cost : ℕ → ℕ} {u v x y c d : ℕ} {lin
 way-sum (arrived _ c) (arrived _ d) = cc
 way-sum (along _ _ _ k rest c) (along _ _ _ l other d) = cc (way-sum rest other)
 
--- One way behind another.
-pub way-append : {Link : ℕ → ℕ → ℕ → ℕ → Type 0} {u x v c d : ℕ} {links others : List ℕ} → Way Link x u links c → Way Link v x others d
-    → Way Link v u (links ++ others) (c + d)
-way-append {Link} {v = v} {others = others} (arrived here free) way = subst₂ (λ (y z : ℕ). Way Link v y others z) (sym here) (omega arith) way
-way-append {c = c} {d} (along y w rest link way e) other = along {c = c + d} y w (rest + d) link (way-append way other) (omega arith)
+module _ {Link : ℕ → ℕ → ℕ → ℕ → Type 0} where
+  -- The way of one link, and one way behind another.
+  pub way-one : {k u v w : ℕ} → Link k u v w → Way Link v u (k ∷ []) w
+  way-one {v = v} {w} link = along {c = w} v w 0 link (arrived refl refl) (omega arith)
+
+  pub way-append : {u x v c d : ℕ} {links others : List ℕ} → Way Link x u links c → Way Link v x others d → Way Link v u (links ++ others) (c + d)
+  way-append {v} {others} (arrived here free) way = subst₂ (λ (y z : ℕ). Way Link v y others z) (sym here) (omega arith) way
+  way-append {c} {d} (along y w rest link way e) other = along {c = c + d} y w (rest + d) link (way-append way other) (omega arith)
+
+  -- Along links that lead back, a way leads back, at the same cost.
+  way-back : {u v c : ℕ} {links : List ℕ} → ((k u v w : ℕ) → Link k u v w → Link k v u w) → Way Link v u links c
+      → (others : List ℕ) × Way Link u v others c
+  way-back back (arrived here free) = ([], arrived (sym here) free)
+  way-back {u} {v} {c} back (along {k = k} x w rest link way e) =
+      let (others, there) = way-back back way in
+      (others ++ (k ∷ []), subst (Way Link u v (others ++ (k ∷ []))) (omega arith) (way-append there (way-one (back k u x w link))))
+
+-- So there is a walk back that costs as much as the walk there,
+pub return-walk : {network : List ℕ} {u v sum : ℕ} {links : List ℕ} → Walk network u v links sum → (others : List ℕ) × Walk network v u others sum
+return-walk walk = way-back (λ k u v w. walk-back) walk
+
+-- and it is as far back as there.
+pub distance-back : {network : List ℕ} {u v d : ℕ} → WalkingDistance network u v d → WalkingDistance network v u d
+distance-back a =
+    let (links, walked) = return-walk (a .walked) in
+    record { links = links; walked = walked; least = λ other sum walk. a .least _ sum (return-walk walk .1) }
 
 -- There is at most one walking distance from a node to a node.
 pub distance-unique : {network : List ℕ} {u v d e : ℕ} → WalkingDistance network u v d → WalkingDistance network u v e → d ≡ e

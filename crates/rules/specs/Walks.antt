@@ -24,9 +24,9 @@ pub data Way (Link : ℕ → ℕ → ℕ → ℕ → Type 0) (v : ℕ) : ℕ →
       → c ≡ w + rest
       → Way Link v u (k ∷ links) c
 
--- People walk links that are open to them, the way they lead (2.1).
+-- People walk a link that is open to them the way it leads, or back (2.1).
 abbrev pub Walkable : List ℕ → ℕ → ℕ → ℕ → ℕ → Type 0
-Walkable network = Leads network (walk network)
+Walkable network k u v w = Leads network (walk network) k u v w ⊎ Leads network (walk network) k v u w
 
 abbrev pub Walk : List ℕ → ℕ → ℕ → List ℕ → ℕ → Type 0
 Walk network u v links sum = Way (Walkable network) v u links sum

@@ -13,7 +13,7 @@ use Rattle.least.specs.Spread.{Spread}
 use Rattle.least.specs.WalkTrips.{Linked}
 use Rattle.least.proofs.Trips.{tentative, relax, fixpoint}
 use Rattle.spread.specs.Lent.{LentRoom}
-use Rattle.spread.specs.Relaxing.{Relaxing, still, lowered, NoArc, OneArc, RelaxedLink, RelaxedBelow, total, Progress}
+use Rattle.spread.specs.Relaxing.{Relaxing, still, lowered, Lowered, low, lower, RelaxedLink, RelaxedBelow, total, Progress}
 
 lower-total : (t : List ℕ) (u x : ℕ) → x < getD t u 0 → total (set t u x) < total t
 unfolding total
@@ -56,6 +56,13 @@ module _ {n : ℕ} {Arc : Arcs} where
         falls = λ g. lower-total t u _ less;
       }
 
+  -- an arc that is looked at, where all is settled once it makes no sum smaller
+  pub progress-lowered : {Settled : List ℕ → Type 0} {before after : List ℕ} {u v w changes : ℕ} → u < n → Arc u v w
+      → (getD before u 0 ≤ w + getD before v 0 → Settled before) → Lowered u v w before after changes
+      → (changes ≤ 1) × Progress n Arc Settled before after changes
+  progress-lowered h arc settled (low loose same none) = (omega arith, rw (same, none) (progress-none (settled loose)))
+  progress-lowered h arc settled (lower less put one) = (omega arith, rw (put, one) (progress-one _ _ _ _ h arc less))
+
   no-rise : {S : List ℕ → Type 0} {before after : List ℕ} (changes : ℕ) → Progress n Arc S before after changes → total after ≤ total before
   no-rise zero so = omega (arith, ap total (so .quiet refl .0))
   no-rise (suc changes) so = omega (arith, so .falls (omega arith))
@@ -83,18 +90,6 @@ module _ {n : ℕ} {Arc : Arcs} where
   pub next-link : {Link : ℕ → Arcs} {before mid after : List ℕ} {k c d : ℕ} → Progress n Arc (RelaxedBelow Link k) before mid c
       → Progress n Arc (RelaxedLink Link k) mid after d → Progress n Arc (RelaxedBelow Link (k + 1)) before after (c + d)
   next-link {Link} {k = k} first second = progress-then (λ t below here. below-more (λ (i : ℕ). RelaxedLink Link i t) k below here) first second
-
--- Relaxing one link: it has no arc, its arc makes no sum smaller, or it makes one.
-module _ {n : ℕ} {Link : ℕ → Arcs} {k : ℕ} {t : List ℕ} where
-  pub link-closed : NoArc Link k → Progress n (Linked Link) (RelaxedLink Link k) t t 0
-  link-closed none = progress-none (λ u v w link. absurd (none .none u v w link))
-
-  module _ {u v w : ℕ} (one : OneArc Link k u v w) where
-    pub link-loose : getD t u 0 ≤ w + getD t v 0 → Progress n (Linked Link) (RelaxedLink Link k) t t 0
-    link-loose h = progress-none (λ x y z link. let (a, b, c) = one .only x y z link in rw (a, b, c) h)
-
-    pub link-lowers : u < n → w + getD t v 0 < getD t u 0 → Progress n (Linked Link) (RelaxedLink Link k) t (set t u (w + getD t v 0)) 1
-    link-lowers h less = progress-one t u v w h (k, one .arc) less
 
 -- Once no link makes a sum smaller, what stands there is what an engine promises
 pub spreads : {n : ℕ} {Link : ℕ → Arcs} {cap : ℕ} {before after : List ℕ} → Inside n (Linked Link) → n ≤ length before

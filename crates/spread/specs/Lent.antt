@@ -1,11 +1,9 @@
--- What the engines are lent, and the arcs of one link open to walkers.
+-- What the engines are lent.
 use Prim.Native.Nat.{ℕ, _≤_}
 use mathlib.Core.List.{List}
 use lib.ListN.{length}
 use Rattle.rules.specs.Limits.{mostWeight}
 use Rattle.rules.specs.Network.{SoundNetwork, nodeCount}
-use Rattle.rules.specs.Walks.{Walkable}
-use Rattle.least.specs.Trips.{Arcs, Turned}
 
 -- A sound network, and a room with a place for each node.
 pub record LentRoom (network room : List ℕ) : Type 0 where
@@ -16,7 +14,3 @@ pub record LentRoom (network room : List ℕ) : Type 0 where
 pub record LentRow (network : List ℕ) (weight : ℕ) (row : List ℕ) : Type 0 where
   pub lent : LentRoom network row
   pub light : weight ≤ mostWeight
-
--- Link k gone backwards, from where it ends.
-abbrev pub WalkLink : List ℕ → ℕ → Arcs
-WalkLink network k = Turned (Walkable network k)

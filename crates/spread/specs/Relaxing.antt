@@ -17,13 +17,14 @@ pub data Relaxing (n : ℕ) (Arc : Arcs) (before : List ℕ) : List ℕ → Type
       → after ≡ set mid u (w + getD mid v 0)
       → Relaxing n Arc before after
 
--- Link k has no arc, or just one: from u to v for w.
-pub record NoArc (Link : ℕ → Arcs) (k : ℕ) : Type 0 where
-  pub none : (u v w : ℕ) → Link k u v w → ⊥
-
-pub record OneArc (Link : ℕ → Arcs) (k u v w : ℕ) : Type 0 where
-  pub arc : Link k u v w
-  pub only : (x y z : ℕ) → Link k x y z → (x ≡ u) × (y ≡ v) × (z ≡ w)
+-- Place u was lowered to w and place v, which is one change; or it was no higher, and nothing changed.
+pub data Lowered (u v w : ℕ) (before after : List ℕ) (changes : ℕ) : Type 0 where
+  low : getD before u 0 ≤ w + getD before v 0 → after ≡ before → changes ≡ 0 → Lowered u v w before after changes
+  lower :
+      w + getD before v 0 < getD before u 0
+      → after ≡ set before u (w + getD before v 0)
+      → changes ≡ 1
+      → Lowered u v w before after changes
 
 -- No arc of link k makes a sum of t smaller.
 abbrev pub RelaxedLink : (ℕ → Arcs) → ℕ → List ℕ → Type 0

@@ -5,17 +5,18 @@ use records::inner::to;
 use records::inner::walk;
 use rules::CLOSED;
 ghost use Prim.Native.Nat.{_≤_, _<_};
+ghost use lib.ListN.{length};
 ghost use Rattle.rules.specs.Network.{nodeCount, linkCount};
-ghost use Rattle.rules.specs.Walks.{noDistance};
+ghost use Rattle.rules.specs.Walks.{Walkable, noDistance};
 ghost use Rattle.least.specs.Spread.{Spread};
-ghost use Rattle.least.specs.WalkTrips.{WalkBack};
-ghost use Rattle.spread.specs.Relaxing.{RelaxedLink, RelaxedBelow, Progress};
-ghost use Rattle.spread.specs.Lent.{LentRoom, WalkLink};
+ghost use Rattle.least.specs.WalkTrips.{WalkArcs};
+ghost use Rattle.spread.specs.Relaxing.{Lowered, RelaxedLink, RelaxedBelow, Progress};
+ghost use Rattle.spread.specs.Lent.{LentRoom};
 
 // Spreads distances along links open to walkers, from the values that stand there.
 pub fn spread_walks(network: &[u8], distances: &mut [u32])
     requires { ⌜ LentRoom (now network) (now distances) ⌝ }
-    ensures { λ _. ⌜ Spread noDistance (nodeCount (now (network .entry))) (WalkBack (now (network .entry)))
+    ensures { λ _. ⌜ Spread noDistance (nodeCount (now (network .entry))) (WalkArcs (now (network .entry)))
         (now (distances .entry)) (now (distances .exit)) ⌝ }
 {
     while walk_round(network, distances) != 0 {}
@@ -24,8 +25,8 @@ pub fn spread_walks(network: &[u8], distances: &mut [u32])
 // One round over all links: how many of them made a distance smaller.
 fn walk_round(network: &[u8], distances: &mut [u32]) -> usize
     requires { ⌜ LentRoom (now network) (now distances) ⌝ }
-    ensures { λ r. ⌜ Progress (nodeCount (now (network .entry))) (WalkBack (now (network .entry)))
-        (RelaxedBelow (WalkLink (now (network .entry))) (linkCount (now (network .entry)))) (now (distances .entry)) (now (distances .exit)) r ⌝ }
+    ensures { λ r. ⌜ Progress (nodeCount (now (network .entry))) (WalkArcs (now (network .entry)))
+        (RelaxedBelow (Walkable (now (network .entry))) (linkCount (now (network .entry)))) (now (distances .entry)) (now (distances .exit)) r ⌝ }
 {
     let m = link_count(network);
     let mut changes = 0;
@@ -37,11 +38,12 @@ fn walk_round(network: &[u8], distances: &mut [u32]) -> usize
     changes
 }
 
-// Relaxes link k: 1 if the distance to its end is made smaller by walking it, and 0 if not.
+// Relaxes link k: 1 if the distance of one of its two nodes is made smaller by walking it, and 0 if not. It costs the same there
+// and back, so this can only be the farther node.
 fn relax_walk(network: &[u8], k: usize, distances: &mut [u32]) -> usize
     requires { ⌜ (k < linkCount (now network)) × LentRoom (now network) (now distances) ⌝ }
-    ensures { λ r. ⌜ (r ≤ 1) × Progress (nodeCount (now (network .entry))) (WalkBack (now (network .entry)))
-        (RelaxedLink (WalkLink (now (network .entry))) k) (now (distances .entry)) (now (distances .exit)) r ⌝ }
+    ensures { λ r. ⌜ (r ≤ 1) × Progress (nodeCount (now (network .entry))) (WalkArcs (now (network .entry)))
+        (RelaxedLink (Walkable (now (network .entry))) k) (now (distances .entry)) (now (distances .exit)) r ⌝ }
 {
     let cost = walk(network, k);
     if CLOSED <= cost as u64 {
@@ -49,14 +51,21 @@ fn relax_walk(network: &[u8], k: usize, distances: &mut [u32]) -> usize
     }
     let start = from(network, k);
     let end = to(network, k);
-    let near = distances[start];
-    let far = distances[end];
-    if far <= near {
+    if distances[start] <= distances[end] {
+        return shorten(distances, start, end, cost);
+    }
+    shorten(distances, end, start, cost)
+}
+
+// Makes the distance of a far node that of a near one and the cost, if that is smaller: 1 if it is, and 0 if not.
+fn shorten(distances: &mut [u32], near: usize, far: usize, cost: u32) -> usize
+    requires { ⌜ (near < length (now distances)) × (far < length (now distances)) ⌝ }
+    ensures { λ r. ⌜ Lowered far near cost (now (distances .entry)) (now (distances .exit)) r ⌝ }
+{
+    let sum = cost as u64 + distances[near] as u64;
+    if distances[far] as u64 <= sum {
         return 0;
     }
-    if far - near <= cost {
-        return 0;
-    }
-    distances[end] = cost + near;
+    distances[far] = sum as u32;
     1
 }

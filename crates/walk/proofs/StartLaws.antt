@@ -14,7 +14,7 @@ use Rattle.rules.proofs.RoomLaws.{kept-then, kept-set}
 use Rattle.least.specs.Trips.{At}
 use Rattle.least.specs.Least.{Least}
 use Rattle.least.specs.Spread.{Spread}
-use Rattle.least.specs.WalkTrips.{WalkBack}
+use Rattle.least.specs.WalkTrips.{WalkArcs}
 use Rattle.least.proofs.Least.{least-none}
 use Rattle.least.proofs.Trips.{compose}
 use Rattle.least.proofs.WalkTrips.{inside, distance}
@@ -36,7 +36,7 @@ module _ {network : List ℕ} {start : ℕ} {before t : List ℕ} (sound : Sound
 
   -- What spreads from 0 at the start are the walking distances.
   pub walked : {home : ℕ} {after : List ℕ}
-      → Spread noDistance (nodeCount network) (WalkBack network) (set t start home) after
+      → Spread noDistance (nodeCount network) (WalkArcs network) (set t start home) after
       → home ≡ 0
       → Row network start before after
   walked {home} spread free =

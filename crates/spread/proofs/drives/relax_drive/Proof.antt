@@ -1,24 +1,29 @@
 -- One link: closed to the bus, no cheaper finish from its start, or a cheaper one.
 use native.Mathlib.Omega.{arith}
+use mathlib.Core.Path.{refl}
+use mathlib.Core.List.{List}
 use native.Mathlib.Nat.{mul-le-mul, le-of-lt}
-use Prim.Native.Nat.{_*_, _≤_}
+use Prim.Native.Nat.{ℕ, _*_, _≤_}
 use borrow.Author.Needs.{needs}
 use Rattle.rules.specs.Limits.{mostWeight, packedStep}
+use Rattle.rules.specs.Network.{nodeCount}
 use Rattle.rules.proofs.WalkLaws.{Joins, leads-joins}
-use Rattle.finish.specs.Packed.{DriveLink}
-use Rattle.spread.specs.Relaxing.{OneArc}
-use Rattle.spread.proofs.RelaxingLaws.{link-closed, link-loose, link-lowers}
-use Rattle.spread.proofs.LinkLaws.{drive-closed, drive-arc}
+use Rattle.finish.specs.Packed.{DriveLink, DriveArc}
+use Rattle.spread.specs.Relaxing.{Lowered, low, lower, RelaxedLink, Progress}
+use Rattle.spread.proofs.RelaxingLaws.{progress-none, progress-lowered}
+use Rattle.spread.proofs.LinkLaws.{drive-closed, drive-arc, drive-loose}
 use Rattle.spread.proofs.drives.relax_drive.Statement.{statement}
 use Rattle.spread.proofs.drives.relax_drive.Tie as tie
 
 returns : tie.Need-returns
-returns c = (omega arith, link-closed (drive-closed (c .before .drive .ensures .value) (omega arith)))
+returns c =
+    let entry = c .before .before .before .before in
+    (omega arith, progress-none (drive-closed (entry .args .row .now) (c .before .drive .ensures .value) (omega arith)))
 
--- What was read is the link's arc, and joins two nodes.
+-- What was read is a link that can be driven, and joins two nodes.
 arc : (c : tie.After-to) →
     let entry = c .before .before .before .before .before .before in
-    OneArc (DriveLink (entry .args .network .now) (entry .args .weight)) (entry .args .k) (c .before .from .result) (c .to .result)
+    DriveLink (entry .args .network .now) (entry .args .weight) (entry .args .k) (c .before .from .result) (c .to .result)
     (packedStep (entry .args .weight * c .before .before .before .drive .result))
 arc c =
     let at-before = c .before .before .before .before .before in
@@ -28,10 +33,22 @@ arc c =
 
 joins : (c : tie.After-to) →
     let entry = c .before .before .before .before .before .before in
-    Joins (entry .args .network .now) (entry .args .k) (c .before .from .result) (c .to .result) (arc c .arc .cost)
+    Joins (entry .args .network .now) (entry .args .k) (c .before .from .result) (c .to .result) (arc c .cost)
 joins c =
     let at-before = c .before .before .before .before .before in
-    let entry = at-before .before in leads-joins (entry .pre .1 .lent .sound) (arc c .arc .leads)
+    let entry = at-before .before in leads-joins (entry .pre .1 .lent .sound) (arc c .leads)
+
+-- So it is relaxed once its start is no higher than its end and the step.
+relaxed : (c : tie.After-to) {after : List ℕ} {changes : ℕ} →
+    let entry = c .before .before .before .before .before .before in
+    let network = entry .args .network .now in
+    let step = packedStep (entry .args .weight * c .before .before .before .drive .result) in
+    Lowered (c .before .from .result) (c .to .result) step (entry .args .row .now) after changes
+    → (changes ≤ 1) × Progress (nodeCount network) (DriveArc network (entry .args .weight))
+    (RelaxedLink (DriveLink network (entry .args .weight)) (entry .args .k)) (entry .args .row .now) after changes
+relaxed c =
+    let entry = c .before .before .before .before .before .before in
+    progress-lowered (joins c .start) (_, arc c) (drive-loose (entry .args .row .now) (arc c))
 
 -- A drive cost of 16 bits, for the heaviest bus.
 light : (c : tie.After-to) →
@@ -55,12 +72,10 @@ slice-read-far : tie.Need-slice-read-far
 slice-read-far c = omega (arith, joins (c .before .before .before))
 
 returns-2 : tie.Need-returns-2
-returns-2 c = (omega arith, link-loose (arc (c .before .before .before .before)) (omega arith))
+returns-2 c = relaxed (c .before .before .before .before) (low (omega arith) refl refl)
 
 returns-3 : tie.Need-returns-3
-returns-3 c =
-    let read = c .before .before .before .before .before in
-    (omega arith, link-loose (arc read) (omega arith))
+returns-3 c = relaxed (c .before .before .before .before .before) (low (omega arith) refl refl)
 
 add-row : tie.Need-add-row
 add-row c =
@@ -74,11 +89,8 @@ slice-write-row c =
 
 returns-4 : tie.Need-returns-4
 returns-4 c =
-    let read = c .before .before .before .before .before in (
-      omega arith,
-      rw (c .before .before .before .before .packed-step .ensures)
-          (link-lowers (arc read) (joins read .start) (omega (arith, c .before .before .before .before .packed-step .ensures))),
-    )
+    let step = c .before .before .before .before .packed-step .ensures in
+    relaxed (c .before .before .before .before .before) (lower (omega (arith, step)) (rw step) refl)
 
 pub relax-drive-spec : {M : Type 1} → statement M
 relax-drive-spec =

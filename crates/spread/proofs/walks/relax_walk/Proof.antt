@@ -1,21 +1,22 @@
--- One link: closed to walkers, no shorter way to its end, or a shorter one.
+-- One link: closed to walkers; or the farther of its ends is no farther than the nearer one and the cost, or is lowered to that.
 use native.Mathlib.Omega.{arith}
 use borrow.Author.Needs.{needs}
-use Rattle.rules.proofs.WalkLaws.{Joins, walk-joins}
-use Rattle.spread.specs.Lent.{WalkLink}
-use Rattle.spread.specs.Relaxing.{OneArc}
-use Rattle.spread.proofs.RelaxingLaws.{link-closed, link-loose, link-lowers}
-use Rattle.spread.proofs.LinkLaws.{walk-closed, walk-arc}
+use Rattle.rules.specs.Walks.{Walkable}
+use Rattle.rules.proofs.WalkLaws.{Joins, walk-back, walk-joins}
+use Rattle.spread.proofs.RelaxingLaws.{progress-none, progress-lowered}
+use Rattle.spread.proofs.LinkLaws.{walk-closed, walk-arc, walk-loose}
 use Rattle.spread.proofs.walks.relax_walk.Statement.{statement}
 use Rattle.spread.proofs.walks.relax_walk.Tie as tie
 
 returns : tie.Need-returns
-returns c = (omega arith, link-closed (walk-closed (c .before .walk .ensures .value) (omega arith)))
+returns c =
+    let entry = c .before .before .before .before in
+    (omega arith, progress-none (walk-closed (entry .args .distances .now) (c .before .walk .ensures .value) (omega arith)))
 
--- What was read is the link's arc, gone backwards, and joins two nodes.
+-- What was read is a link that can be walked from its start to its end, and joins two nodes.
 arc : (c : tie.After-to) →
     let entry = c .before .before .before .before .before .before in
-    OneArc (WalkLink (entry .args .network .now)) (entry .args .k) (c .to .result) (c .before .from .result) (c .before .before .before .walk .result)
+    Walkable (entry .args .network .now) (entry .args .k) (c .before .from .result) (c .to .result) (c .before .before .before .walk .result)
 arc c =
     let at-before = c .before .before .before .before .before in
     let entry = at-before .before in
@@ -27,30 +28,35 @@ joins : (c : tie.After-to) →
     Joins (entry .args .network .now) (entry .args .k) (c .before .from .result) (c .to .result) (c .before .before .before .walk .result)
 joins c =
     let at-before = c .before .before .before .before .before in
-    let entry = at-before .before in walk-joins (entry .pre .1 .sound) (arc c .arc)
+    let entry = at-before .before in walk-joins (entry .pre .1 .sound) (arc c)
 
-slice-read-near : tie.Need-slice-read-near
-slice-read-near c = omega (arith, joins (c .before))
+slice-read-if2 : tie.Need-slice-read-if2
+slice-read-if2 c = omega (arith, joins (c .before))
 
-slice-read-far : tie.Need-slice-read-far
-slice-read-far c = omega (arith, joins (c .before .before))
+slice-read-if2-2 : tie.Need-slice-read-if2-2
+slice-read-if2-2 c = omega (arith, joins (c .before .before))
+
+shorten-requires : tie.Need-shorten-requires
+shorten-requires c κs = omega (arith, joins (c .before .before .before .before))
 
 returns-2 : tie.Need-returns-2
-returns-2 c = (omega arith, link-loose (arc (c .before .before .before)) (omega arith))
+returns-2 c =
+    let read = c .before .before .before .before .before .before .before in
+    let entry = read .before .before .before .before .before .before in
+    progress-lowered (joins read .end) (_, walk-back (arc read))
+    (λ loose. walk-loose (entry .args .distances .now) (arc read) (omega arith) loose)
+    (c .before .before .shorten .ensures)
+
+shorten-requires-2 : tie.Need-shorten-requires-2
+shorten-requires-2 c κs = omega (arith, joins (c .before .before .before .before))
 
 returns-3 : tie.Need-returns-3
-returns-3 c = (omega arith, link-loose (arc (c .before .before .before .before)) (omega arith))
-
-add-distances : tie.Need-add-distances
-add-distances c = omega (arith, c .before .before .slice-known3 .given (c .before .before .before .before .to .result))
-
-slice-write-distances : tie.Need-slice-write-distances
-slice-write-distances c = omega (arith, joins (c .before .before .before .before))
-
-returns-4 : tie.Need-returns-4
-returns-4 c =
-    let read = c .before .before .before .before in
-    (omega arith, link-lowers (arc read) (joins read .end) (omega arith))
+returns-3 c =
+    let read = c .before .before .before .before .before .before .before in
+    let entry = read .before .before .before .before .before .before in
+    progress-lowered (joins read .start) (_, arc read)
+    (λ loose. walk-loose (entry .args .distances .now) (arc read) loose (omega arith))
+    (c .before .before .shorten2 .ensures)
 
 pub relax-walk-spec : {M : Type 1} → statement M
 relax-walk-spec =
@@ -62,14 +68,12 @@ relax-walk-spec =
     (λ c κs. search needs)
     (λ c κs. search needs)
     (λ c. search needs)
-    slice-read-near
+    slice-read-if2
     (λ c. search needs)
-    slice-read-far
+    slice-read-if2-2
+    shorten-requires
+    (λ c. search needs)
     returns-2
+    shorten-requires-2
     (λ c. search needs)
-    returns-3
-    add-distances
-    (λ c. search needs)
-    slice-write-distances
-    (λ c. search needs)
-    returns-4)
+    returns-3)

@@ -2,18 +2,18 @@
 -- smaller; a round that changes nothing leaves no arc that would.
 use Rattle.least.proofs.WalkTrips.{inside}
 use Rattle.rules.proofs.WalkLaws.{walk-joins}
-use Rattle.spread.specs.Lent.{WalkLink}
 use native.Mathlib.Omega.{arith}
 use mathlib.Core.Path.{refl}
 use Rattle.rules.specs.Network.{nodeCount}
-use Rattle.least.specs.WalkTrips.{WalkBack}
+use Rattle.rules.specs.Walks.{Walkable}
+use Rattle.least.specs.WalkTrips.{WalkArcs}
 use Rattle.spread.specs.Relaxing.{Relaxing, still, total}
 use Rattle.spread.proofs.RelaxingLaws.{lent-after, relaxing-kept, relaxing-then, spreads}
 use Rattle.spread.proofs.walks.spread_walks.Statement.{statement}
 use Rattle.spread.proofs.walks.spread_walks.Tie as tie
 
 abbrev Inv-loop : tie.InvT-loop
-Inv-loop network distances₀ distances = Relaxing (nodeCount network) (WalkBack network) distances₀ distances
+Inv-loop network distances₀ distances = Relaxing (nodeCount network) (WalkArcs network) distances₀ distances
 
 abbrev μ-loop : tie.MeasureT-loop
 μ-loop network distances₀ distances = total distances
@@ -44,7 +44,7 @@ returns c =
     let entry = at-slice-known .before .before in
     let lent = entry .pre in
     let (same, relaxed) = c .before .before .before .walk-round .ensures .quiet (c .if1 .left) in
-    spreads {Link = WalkLink _} (inside (lent .sound)) (lent .places)
+    spreads {Link = Walkable _} (inside (lent .sound)) (lent .places)
     (λ u h. omega (arith, at-slice-known .slice-known .given u))
     (relaxing-then (at-loop .loop .inv) (c .before .before .before .walk-round .ensures .relaxing))
     (λ k u v w link. relaxed k (walk-joins (lent .sound) link .exists) u v w link)

@@ -6,16 +6,16 @@ use native.Mathlib.Omega.{arith}
 use borrow.Author.Needs.{needs}
 use Prim.Native.Nat.{_-_, _≤_}
 use Rattle.rules.specs.Network.{nodeCount, linkCount}
-use Rattle.least.specs.WalkTrips.{WalkBack}
+use Rattle.rules.specs.Walks.{Walkable}
+use Rattle.least.specs.WalkTrips.{WalkArcs}
 use Rattle.spread.specs.Relaxing.{Progress, RelaxedBelow}
-use Rattle.spread.specs.Lent.{WalkLink}
 use Rattle.spread.proofs.RelaxingLaws.{progress-none, next-link, relaxing-kept, lent-after}
 use Rattle.spread.proofs.walks.walk_round.Statement.{statement}
 use Rattle.spread.proofs.walks.walk_round.Tie as tie
 
 abbrev Inv-loop : tie.InvT-loop
 Inv-loop network distances₀ m changes₀ k₀ distances changes k =
-    Progress (nodeCount network) (WalkBack network) (RelaxedBelow (WalkLink network) k) distances₀ distances changes
+    Progress (nodeCount network) (WalkArcs network) (RelaxedBelow (Walkable network) k) distances₀ distances changes
     × (changes ≤ k)
     × (k ≤ m)
 
