@@ -1,4 +1,5 @@
-// Lists the links that follow each other, for the bus and for walkers alike.
+// Lists the links that follow each other, for the bus and for walkers alike. A link that is gone back, as only walkers do, has
+// a number of its own: MOST_LINKS more.
 use crate::rows::*;
 use crate::sums::plus;
 
@@ -24,6 +25,9 @@ pub const WALK: usize = 3;
 
 const CLOSED: usize = 65535;
 
+// Behind the numbers of all links, and of all gone back.
+const BOTH_WAYS: usize = 2 * MOST_LINKS;
+
 // The first path from a node.
 pub fn empty(start: usize) -> Path {
     Path {
@@ -37,7 +41,7 @@ pub fn empty(start: usize) -> Path {
 pub fn next(town: &[usize; NUMBERS], cost: usize, most: usize, path: Path) -> Path {
     if path.count < most {
         let k = link_from(town, cost, node_at(town, path, path.count), 0);
-        if k < MOST_LINKS {
+        if k < BOTH_WAYS {
             return with(path, path.count, k);
         }
     }
@@ -50,8 +54,8 @@ fn turned(town: &[usize; NUMBERS], cost: usize, path: Path) -> Path {
     while 0 < i {
         i -= 1;
         let k = link_at(path, i);
-        let higher = link_from(town, cost, number(town, k, 0), k % MOST_LINKS + 1);
-        if higher < MOST_LINKS {
+        let higher = link_from(town, cost, start(town, k), k % BOTH_WAYS + 1);
+        if higher < BOTH_WAYS {
             return with(path, i, higher);
         }
     }
@@ -77,23 +81,26 @@ fn with(path: Path, i: usize, k: usize) -> Path {
     }
 }
 
-// The lowest link, from a number on, that leaves a node and is open to a use; or MOST_LINKS.
+// The lowest link, from a number on, that leaves a node and is open to a use; or BOTH_WAYS.
 fn link_from(town: &[usize; NUMBERS], cost: usize, node: usize, lowest: usize) -> usize {
     let mut k = lowest;
-    while k < MOST_LINKS {
+    while k < BOTH_WAYS {
         if leaves(town, cost, node, k) {
             return k;
         }
         k += 1;
     }
-    MOST_LINKS
+    BOTH_WAYS
 }
 
 fn leaves(town: &[usize; NUMBERS], cost: usize, node: usize, k: usize) -> bool {
-    if town[M] <= k {
+    if town[M] <= k % MOST_LINKS {
         return false;
     }
-    if number(town, k, 0) != node {
+    if start(town, k) != node {
+        return false;
+    }
+    if cost == DRIVE && is_back(k) {
         return false;
     }
     number(town, k, cost) < CLOSED
@@ -113,7 +120,7 @@ pub fn node_at(town: &[usize; NUMBERS], path: Path, position: usize) -> usize {
     if position == 0 {
         return path.start;
     }
-    number(town, link_at(path, position - 1), 1)
+    end(town, link_at(path, position - 1))
 }
 
 pub fn link_at(path: Path, i: usize) -> usize {
@@ -135,7 +142,26 @@ pub fn sum(town: &[usize; NUMBERS], cost: usize, path: Path) -> usize {
     total
 }
 
-// A number of link k: from, to, drive or walk.
+// Where a link starts and ends, the way it is gone.
+fn start(town: &[usize; NUMBERS], k: usize) -> usize {
+    if is_back(k) {
+        return number(town, k, 1);
+    }
+    number(town, k, 0)
+}
+
+fn end(town: &[usize; NUMBERS], k: usize) -> usize {
+    if is_back(k) {
+        return number(town, k, 0);
+    }
+    number(town, k, 1)
+}
+
+fn is_back(k: usize) -> bool {
+    MOST_LINKS <= k
+}
+
+// A number of a link: from, to, drive or walk.
 fn number(town: &[usize; NUMBERS], k: usize, i: usize) -> usize {
     town[LINKS + k % MOST_LINKS * 4 + i % 4]
 }

@@ -1,4 +1,4 @@
--- Nothing is claimed of the loop but that it ends: k rises to the number of links.
+-- Nothing is claimed of the loop but that it ends: k rises to the number of links, there and back.
 use Prim.Native.Nat.{_-_}
 use borrow.Author.Needs.{needs}
 use Rattle.rules.proofs.Four.{four}
@@ -9,7 +9,7 @@ abbrev Inv-loop : tie.InvT-loop
 Inv-loop town cost node lowest k₀ k = Unit
 
 abbrev μ-loop : tie.MeasureT-loop
-μ-loop town cost node lowest k₀ k = 12 - k
+μ-loop town cost node lowest k₀ k = 24 - k
 
 pub link-from-spec : {M : Type 1} → statement M
 link-from-spec =
