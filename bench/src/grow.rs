@@ -68,7 +68,7 @@ impl Grow {
         let n = number(network, 5);
         let links = network[9..].chunks_exact(8).map(Link::read);
         let bus_weight = u64::from(request[7]);
-        self.walks.set(n, links.clone().filter_map(Link::walk));
+        self.walks.set(n, links.clone().flat_map(Link::walks));
         self.drives.set(n, links.filter_map(|link| link.drive_backwards(bus_weight)));
         let riders = &request[9..];
         for (rider, row) in riders.chunks_exact(3).zip(distances.chunks_exact_mut(n)) {
@@ -143,8 +143,11 @@ impl Link {
         Link { from: field(0), to: field(2), drive: field(4) as u16, walk: field(6) as u16 }
     }
 
-    fn walk(self) -> Option<(usize, Arc)> {
-        (self.walk != CLOSED).then(|| (self.from, Arc { to: self.to as u32, cost: self.walk.into() }))
+    /// The link both ways, if it is open to walkers.
+    fn walks(self) -> impl Iterator<Item = (usize, Arc)> + Clone {
+        let ways = [(self.from, self.to), (self.to, self.from)];
+        let open = if self.walk == CLOSED { 0 } else { ways.len() };
+        ways.into_iter().take(open).map(move |(from, to)| (from, Arc { to: to as u32, cost: self.walk.into() }))
     }
 
     fn drive_backwards(self, bus_weight: u64) -> Option<(usize, Arc)> {

@@ -25,5 +25,6 @@ pub mod text_cases;
 pub mod text_damage;
 pub mod vectors;
 pub mod walk;
+pub mod walk_kinds;
 pub mod write;
 pub mod write_cases;

@@ -87,6 +87,7 @@ fn walks(network: &Network) -> Vec<Vec<Option<u64>>> {
     for link in &network.links {
         if let Some(cost) = link.walk_cost() {
             shorten(&mut walks[link.from][link.to], cost);
+            shorten(&mut walks[link.to][link.from], cost);
         }
     }
     (0..n).for_each(|node| walks[node][node] = Some(0));

@@ -12,12 +12,13 @@ pub fn walk(network: &[u8], start: u64, room: &mut [u32]) -> Answer<()> {
     Ok(())
 }
 
-/// The walking distance from the start to each node.
+/// The walking distance from the start to each node; a link is walked both ways.
 pub fn walks_from(network: &Network, start: usize) -> Vec<Option<u64>> {
     let mut leaving = vec![Vec::new(); network.n];
     for link in &network.links {
         if let Some(cost) = link.walk_cost() {
             leaving[link.from].push((link.to, (cost, 0)));
+            leaving[link.to].push((link.from, (cost, 0)));
         }
     }
     let sums = least_sums(network.n, start, |node| leaving[node].clone());

@@ -9,7 +9,7 @@ use outside::record::{read_both, Answer, CLOSED, MOST_LINKS, MOST_NODES, MOST_RI
 use outside::search::{FIRST_DRIVE, STEP_RANGE};
 use outside::tally::Tally;
 use outside::vectors::{self, Entry, Vector};
-use outside::{desk_cases, listing, rereading};
+use outside::{desk_cases, listing, rereading, walk_kinds};
 use std::error::Error;
 use std::io::Write;
 use std::process::{self, ChildStdin};
@@ -133,6 +133,7 @@ fn compare_case(case: Case, answers: &mut Answers, tally: &mut Tally) -> Result<
 }
 
 fn note(tally: &mut Tally, call: &Call, answer: Answer<u64>) {
+    walk_kinds::kinds(call, answer).into_iter().for_each(|kind| tally.add(kind));
     match (answer, call) {
         (Err(refusal), _) => tally.add(format!("{} refused {}", call.name(), refusal.number)),
         (Ok(finish), Call::Search { network, request, steps, .. }) => {
@@ -204,5 +205,7 @@ fn outcomes() -> Vec<String> {
     let granted = ["network", "request", "walk", "price", "tablet"].map(|name| format!("{name} granted"));
     let planned = (0..=MOST_RIDERS).map(|l| format!("search granted for {l} riders"));
     let kinds = PLAN_KINDS.into_iter().chain(WRITTEN_NETWORKS).chain(WRITTEN_REQUESTS).map(String::from);
-    refused.chain(granted).chain(planned).chain(kinds).collect()
+    let of_entry = |name: &str| walk_kinds::KINDS.map(|kind| format!("{name} {kind}"));
+    let walked = walk_kinds::ENTRIES.into_iter().flat_map(of_entry);
+    refused.chain(granted).chain(planned).chain(kinds).chain(walked).collect()
 }

@@ -3,10 +3,13 @@
 //! `plan`; `--compare-only` may come first.
 
 use outside::arguments::compare_only;
+use outside::call::Call;
 use outside::plan_cases::input;
-use outside::program::{output, MOST_INPUT};
-use outside::record::number;
+use outside::program::{output, parted, MOST_INPUT, TABLE_PLACES};
+use outside::record::{number, MOST_NODES, MOST_RIDERS};
+use outside::search::{needs, Needs};
 use outside::tally::Tally;
+use outside::walk_kinds;
 use std::error::Error;
 use std::io::{ErrorKind, Write};
 use std::path::Path;
@@ -109,13 +112,30 @@ fn kinds(input: &[u8], pieces: usize, printed: &str) -> Vec<String> {
         stated.is_some_and(|stated| stated > input.len()),
         pieces > 1,
     ]);
-    kinds.filter(|(_, is)| *is).map(|(kind, _)| kind.into()).chain([outcome]).collect()
+    let mut search = search_of(input);
+    let answer = search.answer();
+    let kinds = kinds.filter(|(_, is)| *is).map(|(kind, _)| kind.into());
+    kinds.chain([outcome]).chain(walk_kinds::kinds(&search, answer)).collect()
+}
+
+/// The search that an input asks for.
+fn search_of(input: &[u8]) -> Call {
+    let (network, request) = parted(&input[..input.len().min(MOST_INPUT)]);
+    let Needs { distances, steps, .. } = needs(MOST_NODES, MOST_RIDERS);
+    Call::Search {
+        network: network.to_vec(),
+        request: request.to_vec(),
+        distances: vec![0; distances],
+        table: vec![0; TABLE_PLACES],
+        steps: vec![0; steps],
+    }
 }
 
 /// All that must occur.
 fn outcomes() -> Vec<String> {
     let refusals = (1..=6).chain(11..=17).chain([22, 24]).map(|number| format!("refused {number}"));
-    refusals.chain(["ok".into()]).chain(INPUT_KINDS.map(String::from)).collect()
+    let walked = format!("search {}", walk_kinds::BACKWARDS);
+    refusals.chain(["ok".into(), walked]).chain(INPUT_KINDS.map(String::from)).collect()
 }
 
 fn run(command: &[String], pieces: Vec<Vec<u8>>) -> Result<process::Output, Box<dyn Error>> {
