@@ -150,7 +150,7 @@ uint64_t tivelgor_request(const uint8_t *network, size_t network_length,
                           const uint8_t *request, size_t request_length);
 
 /*
- * Finds the walking distances from a node (2.3).
+ * Finds the walking distances from a node (2.3). Every link that is open to walkers is walked either way (2.1).
  *
  *   network    the record, as bytes
  *   start      the node
