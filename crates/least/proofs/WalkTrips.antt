@@ -15,11 +15,11 @@ use Rattle.least.proofs.Shortening.{bounded}
 
 module _ {Link : ℕ → Arcs} where
   -- A way is a trip to its end, over links.
-  pub way_trip : {u v sum : ℕ} {links : List ℕ} → Way Link v u links sum → Trip (Linked Link) (At v) u sum
+  pub way_trip : {v u sum : ℕ} {links : List ℕ} → Way Link v u links sum → Trip (Linked Link) (At v) u sum
   way_trip (arrived here free) = done (here, free)
   way_trip (along {k = k} x w rest link way e) = step x w rest (k, link) (way_trip way) e
 
-  pub trip_way : {u v sum : ℕ} → Trip (Linked Link) (At v) u sum → (links : List ℕ) × Way Link v u links sum
+  pub trip_way : {v u sum : ℕ} → Trip (Linked Link) (At v) u sum → (links : List ℕ) × Way Link v u links sum
   trip_way (done i) = ([], arrived i.0 i.1)
   trip_way (step x w rest a t e) =
       let (links, way) = trip_way t in

@@ -1,4 +1,6 @@
 // The lines that the program prints, made from the line feed backwards.
+#![tactic(auto)]
+
 pub mod inner;
 mod step;
 mod text;

@@ -1,5 +1,7 @@
 // Compares the search with a listing of every drive, on small towns that a seeded generator makes: its answer and all that it
 // leaves in the rooms. Stops at the first town in which they differ.
+#![tactic(auto)]
+
 mod answers;
 mod finishes;
 mod generator;

@@ -1,4 +1,6 @@
 // What the program prints, in lent room.
+#![tactic(auto)]
+
 mod pieces;
 
 ghost use Rattle.std.specs.Prelude.{◌≤◌, length, take, drop};

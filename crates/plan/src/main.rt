@@ -1,5 +1,7 @@
 // Reads a network record and, behind it, a request record from standard input, and prints the right plan or why there is
 // none.
+#![tactic(auto)]
+
 use libc::{STDIN_FILENO, STDOUT_FILENO};
 
 fn main() {

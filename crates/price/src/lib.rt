@@ -1,4 +1,6 @@
 // Pricing of a given route.
+#![tactic(auto)]
+
 pub mod inner;
 mod riders;
 mod route;

@@ -1,4 +1,6 @@
 // Readers of the two records of the rules. Every slice, of any length and content, gets its value or its refusal.
+#![tactic(auto)]
+
 pub mod inner;
 mod input;
 mod network;

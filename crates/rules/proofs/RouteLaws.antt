@@ -12,7 +12,7 @@ abbrev pub KnownLinks : List ℕ → List ℕ → Type 0
 KnownLinks network route = (i : ℕ) → i < length route → get_or route i 0 < link_count network
 
 -- Those of a way are.
-pub way_known : {network : List ℕ} {cost : ℕ → ℕ} {u v c : ℕ} {links : List ℕ} → Way (Leads network cost) v u links c → KnownLinks network links
+pub way_known : {network : List ℕ} {cost : ℕ → ℕ} {v u c : ℕ} {links : List ℕ} → Way (Leads network cost) v u links c → KnownLinks network links
 way_known (arrived here free) i h = absurd (omega arith)
 way_known (along x w rest link way e) zero h = link.exists
 way_known (along x w rest link way e) (suc i) h = way_known way i (omega arith)
@@ -23,5 +23,5 @@ pub node_below : {network : List ℕ} {v : ℕ} (route : List ℕ) → SoundNetw
 unfolding node_at
 node_below route sound h known zero = h
 node_below [] sound h known (suc position) = h
-node_below (k ∷ route) sound h known (suc position) =
-    node_below route sound (sound.ends k (known 0 (omega arith))) (λ i g. known (suc i) (omega arith)) position
+node_below {network = network} (k ∷ route) sound h known (suc position) =
+    node_below {v = to network k} route sound (sound.ends k (known 0 (omega arith))) (λ i g. known (suc i) (omega arith)) position

@@ -116,7 +116,7 @@ walk_alike {a} {b} {k} count starts ends less link = ⊎_elim (λ l. inl (alike 
     alike l = record { exists = omega (arith, l.exists); starts = cc; ends = cc; costs = refl; opened = omega (arith, l.opened, l.costs) }
 
 -- The costs of one list of links add up to one sum, wherever it starts.
-pub way_sum : {network : List ℕ} {cost : ℕ → ℕ} {u v x y c d : ℕ} {links : List ℕ}
+pub way_sum : {network : List ℕ} {cost : ℕ → ℕ} {v u y x c d : ℕ} {links : List ℕ}
     → Way (Leads network cost) v u links c
     → Way (Leads network cost) y x links d
     → c ≡ d
@@ -128,15 +128,15 @@ module _ {Link : ℕ → ℕ → ℕ → ℕ → Type 0} where
   pub way_one : {k u v w : ℕ} → Link k u v w → Way Link v u (k ∷ []) w
   way_one {v = v} {w} link = along {c = w} v w 0 link (arrived refl refl) (omega arith)
 
-  pub way_append : {u x v c d : ℕ} {links others : List ℕ} → Way Link x u links c → Way Link v x others d → Way Link v u (links ++ others) (c + d)
+  pub way_append : {x u v c d : ℕ} {links others : List ℕ} → Way Link x u links c → Way Link v x others d → Way Link v u (links ++ others) (c + d)
   way_append {v} {others} (arrived here free) way = subst₂ (λ (y z : ℕ). Way Link v y others z) (sym here) (omega arith) way
   way_append {c} {d} (along y w rest link way e) other = along {c = c + d} y w (rest + d) link (way_append way other) (omega arith)
 
   -- Along links that lead back, a way leads back, at the same cost.
-  way_back : {u v c : ℕ} {links : List ℕ} → ((k u v w : ℕ) → Link k u v w → Link k v u w) → Way Link v u links c
+  way_back : {v u c : ℕ} {links : List ℕ} → ((k u v w : ℕ) → Link k u v w → Link k v u w) → Way Link v u links c
       → (others : List ℕ) × Way Link u v others c
-  way_back back (arrived here free) = ([], arrived (sym here) free)
-  way_back {u} {v} {c} back (along {k = k} x w rest link way e) =
+  way_back {v} {u} {c} back (arrived here free) = ([], arrived (sym here) free)
+  way_back {v} {u} {c} back (along {k = k} x w rest link way e) =
       let (others, there) = way_back back way in
       (others ++ (k ∷ []), subst (Way Link u v (others ++ (k ∷ []))) (omega arith) (way_append there (way_one (back k u x w link))))
 

@@ -1,4 +1,6 @@
 // The types of the rules' values and answers, and the numbers that have a name. The rules are the definitions in specs/.
+#![tactic(auto)]
+
 pub mod checks;
 pub mod inner;
 

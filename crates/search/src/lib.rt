@@ -1,4 +1,6 @@
 // The search: the one right plan.
+#![tactic(auto)]
+
 pub mod inner;
 mod steps;
 

@@ -1,4 +1,6 @@
 // The network engines: they spread least sums over the arcs of a network.
+#![tactic(auto)]
+
 mod drives;
 pub mod inner;
 mod walks;

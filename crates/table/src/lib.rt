@@ -1,4 +1,6 @@
 // The two tables of the search: the riders' walking distances, and the work table of best finishes.
+#![tactic(auto)]
+
 mod distances;
 pub mod inner;
 mod meetings;

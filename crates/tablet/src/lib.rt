@@ -1,4 +1,6 @@
 // The drivers' tablet: one entry for its host program in C.
+#![tactic(auto)]
+
 mod route;
 
 ghost use Rattle.rules.specs.Answers.{priced_outcome, Tablet, TabletPriced};

@@ -1,5 +1,7 @@
 // Makes the calls that a file of vectors lists, and holds each to what the file says of it. The head of the file, which is
 // the program's input, tells how it is written. Stops at the first line that is wrong, and shows it.
+#![tactic(auto)]
+
 mod calls;
 mod layout;
 mod numbers;

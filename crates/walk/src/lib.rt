@@ -1,4 +1,6 @@
 // Walking distances from any node.
+#![tactic(auto)]
+
 pub mod inner;
 
 ghost use Rattle.rules.specs.Answers.{verdict_outcome, Walked};
