@@ -5,8 +5,8 @@ use native.Mathlib.Nat.{add-sub_cancel_left}
 use mathlib.Core.Path.{◌≡◌, refl, sym, ◌∙◌}
 use mathlib.Core.List.{List}
 use lib.ListN.{length}
-use denote.Ref.{Bor}
-use borrow.Rule.Slice.PartAt.{sl_part}
+use Rattle.std.specs.Borrow.{Bor}
+use borrow.Rule.Slice.PartAt.{sl_partˢ}
 use Rattle.rules.specs.Checks.{beside}
 use Rattle.rules.specs.Network.{node_count, link_count, link_start, network_verdict, network_of, SoundNetwork, Part}
 use Rattle.rules.specs.declared.NetworkRead.{NetworkRead}
@@ -29,9 +29,9 @@ link_fits s k h =
     omega arith
 
 -- what the slice's own rule says of `&whole[at..at + size]`
-pub part_of : (whole : Bor (List ℕ)) {start at : ℕ} (size name : ℕ) → at ≡ start
-    → Part whole start size (sl_part whole (at + whole.ref_ptr.1) at (at + size) name)
-part_of whole {start} {at} size name e =
+pub part_of : (whole : Bor (List ℕ)) {start at : ℕ} (size : ℕ) → at ≡ start
+    → Part whole start size (sl_partˢ whole (at + whole.ref_ptr.1) at (at + size))
+part_of whole {start} {at} size e =
     record { memory = refl; place = rw e; contents = rw (add-sub_cancel_left at size, e) }
 
 -- what a read network says: its verdict, and beside an accepted one its numbers

@@ -91,9 +91,9 @@ not_with_a_stray_rider e =
 pub not_a_copy : {network part : Bor (List ℕ)} (k : ℕ) → part.ref_ptr.0 ≢ network.ref_ptr.0 → LinkPart network k part → ⊥
 not_a_copy k other so = other so.memory
 
-module _ (block place name : ℕ) where
+module _ (block place : ℕ) where
   abbrev pub whole : Bor (List ℕ)
-  whole = record { ref_ptr = (block, place); ghost_name = name; now = town }
+  whole = record { ref_ptr = (block, place); now = town }
 
   pub not_the_next_link : (part : Bor (List ℕ)) → LinkPart whole 2 part → part.ref_ptr.1 ≡ place + 33 → ⊥
   unfolding network_of network_verdict network_checks opening_checks size_checks number first_of each bytes_of twos_of
