@@ -42,14 +42,14 @@ pub const LONGEST_ROUTE: usize = 4095;
 pub const FIRST_REFUSAL: u64 = 9223372036854775808;
 
 // A refusal: its number, and the place it names (0 where it names none).
-#[derive(Drop)]
+#[derive(Clone, Copy)]
 pub struct Refusal {
     pub number: u16,
     pub place: usize,
 }
 
 // The answer of an entry that hands back no number of its own.
-#[derive(Drop)]
+#[derive(Clone, Copy)]
 pub enum Verdict {
     Accepted,
     Refused(Refusal),
@@ -63,7 +63,7 @@ pub fn refused(number: u16, place: usize) -> Verdict
 }
 
 // What reading a network gives: its sizes, or 0 for each where the verdict is a refusal.
-#[derive(Drop)]
+#[derive(Clone, Copy)]
 pub struct NetworkRead {
     pub verdict: Verdict,
     pub n: usize,
@@ -71,7 +71,7 @@ pub struct NetworkRead {
 }
 
 // A request as one value: what its record says, and zeros where it has no rider.
-#[derive(Drop)]
+#[derive(Clone, Copy)]
 pub struct Request {
     pub source: usize,
     pub target: usize,
@@ -82,28 +82,28 @@ pub struct Request {
 }
 
 // What reading a request gives: its value, or zeros throughout where the verdict is a refusal.
-#[derive(Drop)]
+#[derive(Clone, Copy)]
 pub struct RequestRead {
     pub verdict: Verdict,
     pub request: Request,
 }
 
 // The answer of what writes a record: the record's length, or why none was written.
-#[derive(Drop)]
+#[derive(Clone, Copy)]
 pub enum Recorded {
     Length(usize),
     Refused(Refusal),
 }
 
 // The answer of pricing.
-#[derive(Drop)]
+#[derive(Clone, Copy)]
 pub enum Priced {
     Price(u64),
     Refused(Refusal),
 }
 
 // What the search answers: what the plan costs and how many steps it has, or why there is none.
-#[derive(Drop)]
+#[derive(Clone, Copy)]
 pub enum Planned {
     Plan { cost: u64, count: usize },
     Refused(Refusal),
