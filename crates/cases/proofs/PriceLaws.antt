@@ -22,7 +22,7 @@ unfolding route_test drive_sum
 route_way [] here = arrived here refl
 route_way {network} (k ∷ route) ((exists, (starts, opened)), rest) =
     along (to network k) (drive network k) _ (record { exists = exists; starts = starts; ends = refl; costs = refl; opened = opened })
-    (route_way route rest)
+    (route_way {v = to network k} route rest)
     refl
 
 module _ {network : List ℕ} {q : Request} {D : ℕ → ℕ → ℕ}

@@ -1,5 +1,5 @@
 -- Searches of a case, and wrong ends of them.
-use Rattle.std.specs.Prelude.{ℕ, ◌+◌, ◌<◌, ◌≤◌, ◌≡◌, ◌≢◌, List, [], ◌∷◌, ◌++◌, length, drop, replicate}
+use Rattle.std.specs.Prelude.{ℕ, ◌<◌, ◌≤◌, ◌≡◌, ◌≢◌, List, [], ◌∷◌, ◌++◌, length, drop, replicate}
 use Rattle.rules.specs.Network.{node_count}
 use Rattle.rules.specs.Request.{rider_count_of}
 use Rattle.rules.specs.Routes.{node_at}

@@ -5,7 +5,7 @@ use mathlib.Core.Logic.Iff
 use mathlib.Core.Logic.{◌↔◌}
 use mathlib.Core.List.{List, [], ◌∷◌}
 use native.Mathlib.Omega.{arith}
-use Rattle.rules.specs.Network.{walk}
+use Rattle.rules.specs.Network.{to, walk}
 use Rattle.rules.specs.Routes.{Route, node_at, RiderWalks, Meeting, Price}
 use Rattle.rules.specs.declared.Request.{Request}
 use Rattle.rules.proofs.WalkLaws.{leads_same}
@@ -21,7 +21,7 @@ module _ {a b : List ℕ} (s : SameLinks a b) where
   nodes_same u links known zero = refl
   nodes_same u [] known (suc position) = refl
   nodes_same u (k ∷ links) known (suc position) =
-      rw (s.ends k (known 0 (omega arith))) (nodes_same _ links (λ i h. known (suc i) (omega arith)) position)
+      rw (s.ends k (known 0 (omega arith))) (nodes_same (to b k) links (λ i h. known (suc i) (omega arith)) position)
 
   -- A route rests on the drive costs of its links alone ..
   route_moves : (q : Request) {route : List ℕ} {driving : ℕ} → SameOnRoute a b route → Route a q route driving → Route b q route driving

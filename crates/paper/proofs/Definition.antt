@@ -22,7 +22,7 @@ use Rattle.paper.proofs.TwoWay.{position_passed, passed_position, drive_path, pa
 use Rattle.paper.proofs.Prices.{nearest, meetings_price, route_price}
 
 -- Where edges that join the same nodes have the same weight, a path has one f.
-path_unique : {G : Graph} {s t c e : ℕ} {P : List ℕ} → OneWeight G → Path G t s P c → Path G t s P e → c ≡ e
+path_unique : {G : Graph} {t s c e : ℕ} {P : List ℕ} → OneWeight G → Path G t s P c → Path G t s P e → c ≡ e
 path_unique one (stays _ c) (stays _ e) = cc
 path_unique one (goes w rest edge path c) (goes x other also way e) = cc (one _ _ w x edge also, path_unique one path way)
 

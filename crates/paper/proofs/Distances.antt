@@ -75,7 +75,7 @@ module _ {network : List ℕ} {k : ℕ} (needless : Needless network k) where
   ]
 
   -- .. and so can be left out of every walk.
-  avoided : {u v c : ℕ} {links : List ℕ} → Walk network u v links c → Within (Besides network k) u v c
+  avoided : {v u c : ℕ} {links : List ℕ} → Walk network u v links c → Within (Besides network k) u v c
   avoided (arrived here free) = record { links = []; sum = 0; way = arrived here refl; cheap = omega arith }
   avoided (along x w rest link way e) = within_append (replaced link) (avoided way) (omega arith)
 

@@ -7,7 +7,7 @@ use mathlib.Core.List.Memᴰ
 use mathlib.Core.List.{List, [], ◌∷◌, Memᴰ}
 use native.Mathlib.Omega.{arith}
 use lib.ListN.{length}
-use Rattle.rules.specs.Network.{walk}
+use Rattle.rules.specs.Network.{to, walk}
 use Rattle.rules.specs.Request.{rider_node_of}
 use Rattle.rules.specs.Walks.{Leads, Way, arrived, along, Walkable, Walk, WalkingDistance}
 use Rattle.rules.specs.Routes.{Drivable, node_at, RiderWalks}
@@ -23,19 +23,20 @@ pub position_passed : (network : List ℕ) (u : ℕ) (route : List ℕ) (positio
 unfolding node_at
 position_passed network u route zero h = Memᴰ.head refl
 position_passed network u [] (suc position) h = Memᴰ.head refl
-position_passed network u (k ∷ route) (suc position) h = Memᴰ.tail (position_passed network _ route position (omega arith))
+position_passed network u (k ∷ route) (suc position) h = Memᴰ.tail (position_passed network (to network k) route position (omega arith))
 
 pub passed_position : (network : List ℕ) (u : ℕ) (route : List ℕ) {v : ℕ} → Memᴰ v (u ∷ nodes_of network route)
     → (position : ℕ) × (position ≤ length route) × (v ≡ node_at network u route position)
 unfolding node_at
-passed_position network u route (Memᴰ.head e) = (0, omega arith, e)
+passed_position network u [] (Memᴰ.head e) = (0, omega arith, e)
 passed_position network u [] (Memᴰ.tail h) = absurd (Memᴰ.not-nil h)
+passed_position network u (k ∷ route) (Memᴰ.head e) = (0, omega arith, e)
 passed_position network u (k ∷ route) (Memᴰ.tail h) =
-    let (position, within, e) = passed_position network _ route h in
+    let (position, within, e) = passed_position network (to network k) route h in
     (suc position, omega arith, e)
 
 -- The nodes of a route's way.
-pub route_nodes : {network : List ℕ} {u v c : ℕ} {route : List ℕ} (way : Way (Drivable network) v u route c)
+pub route_nodes : {network : List ℕ} {v u c : ℕ} {route : List ℕ} (way : Way (Drivable network) v u route c)
     → way_nodes way ≡ nodes_of network route
 unfolding way_nodes
 route_nodes (arrived here free) = refl
@@ -43,7 +44,7 @@ route_nodes (along x w rest link way e) = ap₂ ◌∷◌ (sym link.ends) (route
 
 -- Along links that are edges, a way is a path of the same cost through the same nodes.
 way_path : {G : Graph} {Link : ℕ → ℕ → ℕ → ℕ → Type 0} → ((k u v w : ℕ) → Link k u v w → G.Edge u v w)
-    → {u v c : ℕ} {links : List ℕ} (way : Way Link v u links c) → Path G v u (way_nodes way) c
+    → {v u c : ℕ} {links : List ℕ} (way : Way Link v u links c) → Path G v u (way_nodes way) c
 unfolding way_nodes
 way_path edges (arrived here free) = stays here free
 way_path edges (along {k = k} x w rest link way e) = goes w rest (edges k _ x w link) (way_path edges way) e
@@ -53,7 +54,7 @@ walk_path : {network : List ℕ} {u v c : ℕ} {links : List ℕ} (walk : Walk n
 unfolding graph_of
 walk_path walk = way_path (λ k u v w link. (k, link)) walk
 
-path_walk : {network : List ℕ} {u v c : ℕ} {P : List ℕ} → Path (graph_of network) v u P c → (links : List ℕ) × Walk network u v links c
+path_walk : {network : List ℕ} {v u c : ℕ} {P : List ℕ} → Path (graph_of network) v u P c → (links : List ℕ) × Walk network u v links c
 unfolding graph_of
 path_walk (stays here free) = ([], arrived here free)
 path_walk (goes w rest (k, link) path e) =
@@ -86,7 +87,7 @@ module _ {network : List ℕ} (back : BothWays network) where
   walk_leads {k} link = ⊎_elim (λ there. (k, there)) leads_back link
 
   -- So every walk has one as long that goes the way of each of its links,
-  walk_one_way : {u v c : ℕ} {links : List ℕ} → Walk network u v links c → (others : List ℕ) × OneWayWalk network u v others c
+  walk_one_way : {v u c : ℕ} {links : List ℕ} → Walk network u v links c → (others : List ℕ) × OneWayWalk network u v others c
   walk_one_way (arrived here free) = ([], arrived here free)
   walk_one_way (along x w rest link way e) =
       let (k, leads) = walk_leads link in
@@ -118,7 +119,7 @@ module _ {network : List ℕ} (two : TwoWay network) where
   unfolding graph_of
   drive_path way = rw (← route_nodes way) (way_path (λ k u v w link. (k, drive_walks k u v w link)) way)
 
-  pub path_drive : {u v c : ℕ} {P : List ℕ} → Path (graph_of network) v u P c
+  pub path_drive : {v u c : ℕ} {P : List ℕ} → Path (graph_of network) v u P c
       → (route : List ℕ) × Way (Drivable network) v u route c × (nodes_of network route ≡ P)
   unfolding graph_of
   path_drive (stays here free) = ([], arrived here free, refl)

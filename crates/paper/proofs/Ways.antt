@@ -9,7 +9,7 @@ use Rattle.paper.specs.Alike.{Within}
 
 module _ {Link Other : ℕ → ℕ → ℕ → ℕ → Type 0} where
   -- Links that lead alike lead the same way.
-  pub way_same : {u v c : ℕ} {links : List ℕ} → ((k u v w : ℕ) → Memᴰ k links → Link k u v w → Other k u v w)
+  pub way_same : {v u c : ℕ} {links : List ℕ} → ((k u v w : ℕ) → Memᴰ k links → Link k u v w → Other k u v w)
       → Way Link v u links c → Way Other v u links c
   way_same alike (arrived here free) = arrived here free
   way_same alike (along x w rest link way e) =

@@ -66,7 +66,7 @@ query_of q w weights =
     }
 
 -- The nodes that a way passes behind its start.
-unfoldable pub way_nodes : {Link : ℕ → ℕ → ℕ → ℕ → Type 0} {u v c : ℕ} {links : List ℕ} → Way Link v u links c → List ℕ
+unfoldable pub way_nodes : {Link : ℕ → ℕ → ℕ → ℕ → Type 0} {v u c : ℕ} {links : List ℕ} → Way Link v u links c → List ℕ
 way_nodes (arrived here free) = []
 way_nodes (along x w rest link way e) = x ∷ way_nodes way
 
