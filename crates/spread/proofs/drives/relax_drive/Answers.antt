@@ -65,10 +65,6 @@ returns-then-far-near c = relaxed (goal.at.returns-then-far-near c).After-to-end
 pub returns-then-far-near-2 : goal.returns-then-far-near-2
 returns-then-far-near-2 c = relaxed (goal.at.returns-then-far-near-2 c).After-to-end (low (omega arith) refl refl)
 
-pub overflow_add-row : goal.overflow_add-row
-overflow_add-row c =
-    omega (arith, c.type_inv.row c.from-start.result)
-
 pub bounds-row-start-2 : goal.bounds-row-start-2
 bounds-row-start-2 c =
     omega (arith, joins (goal.at.bounds-row-start-2 c).After-to-end)

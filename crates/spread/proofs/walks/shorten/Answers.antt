@@ -16,8 +16,5 @@ overflow_cast-distances c = omega (arith, c.type_inv.distances c.args.far)
 pub returns-then-distances-far : goal.returns-then-distances-far
 returns-then-distances-far c = low (omega arith) refl refl
 
-pub overflow_cast-distances-2 : goal.overflow_cast-distances-2
-overflow_cast-distances-2 c = omega (arith, c.type_inv.distances c.args.far)
-
 pub returns : goal.returns
 returns c = lower (omega arith) refl refl

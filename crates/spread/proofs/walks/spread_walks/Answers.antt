@@ -8,27 +8,27 @@ use Rattle.spread.proofs.RelaxingLaws.{lent_after, relaxing_kept, relaxing_then,
 use Rattle.spread.proofs.walks.spread_walks.Goals as goal
 
 pub loop-init : goal.loop-init
-loop-init c = still refl
+loop-init c = (still refl, λ u. omega (arith, c.type_inv.distances u))
 
 pub walk_round-requires : goal.walk_round-requires
-walk_round-requires c = lent_after c.requires c.loop.invariant
+walk_round-requires c = lent_after c.requires c.loop.invariant.0
 
 pub loop-smaller : goal.loop-smaller
 loop-smaller c = c.walk_round.ensures.falls (omega arith)
 
 pub loop-preserved : goal.loop-preserved
 loop-preserved c =
-    relaxing_then c.loop.invariant c.walk_round.ensures.relaxing
+    (relaxing_then c.loop.invariant.0 c.walk_round.ensures.relaxing, c.loop.invariant.1)
 
 pub shape_of-distances : goal.shape_of-distances
 shape_of-distances c =
-    (relaxing_kept (relaxing_then c.loop.invariant c.walk_round.ensures.relaxing)).size
+    (relaxing_kept (relaxing_then c.loop.invariant.0 c.walk_round.ensures.relaxing)).size
 
 pub returns : goal.returns
 returns c =
     let lent = c.requires in
     let (same, relaxed) = c.walk_round.ensures.quiet c.loop-test.false in
     spreads {Link = Walkable _} (inside lent.sound) lent.places
-    (λ u h. omega (arith, c.type_inv.distances u))
-    (relaxing_then c.loop.invariant c.walk_round.ensures.relaxing)
+    (λ u h. c.loop.invariant.1 u)
+    (relaxing_then c.loop.invariant.0 c.walk_round.ensures.relaxing)
     (λ k u v w link. relaxed k (walk_joins lent.sound link).exists u v w link)
