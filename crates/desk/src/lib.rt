@@ -22,8 +22,7 @@ pub use writing::{tivelgor_write_network, tivelgor_write_request};
 const SHORT_RANGE: u64 = 65536;
 
 // Reads a network record: 65,536 × n + m, or its refusal.
-#[unsafe(no_mangle)]
-pub extern "C" fn tivelgor_network(network: &[u8]) -> u64
+pub fn tivelgor_network(network: &[u8]) -> u64
     ensures { result ≡ desk_number short_range (network_outcome (network_of network.now)) }
 {
     let read = read_network(network);
@@ -35,8 +34,7 @@ pub extern "C" fn tivelgor_network(network: &[u8]) -> u64
 }
 
 // Reads a request record for a network record: its number of riders, or the refusal of the two.
-#[unsafe(no_mangle)]
-pub extern "C" fn tivelgor_request(network: &[u8], request: &[u8]) -> u64
+pub fn tivelgor_request(network: &[u8], request: &[u8]) -> u64
     ensures { result ≡ desk_number short_range (request_outcome (request_of network.now request.now)) }
 {
     let read = read_request(network, request);
@@ -49,8 +47,7 @@ pub extern "C" fn tivelgor_request(network: &[u8], request: &[u8]) -> u64
 }
 
 // Fills the first n places of `distances` with the walking distances from `start`: 0, or its refusal.
-#[unsafe(no_mangle)]
-pub extern "C" fn tivelgor_walk(network: &[u8], start: usize, distances: &mut [u32]) -> u64
+pub fn tivelgor_walk(network: &[u8], start: usize, distances: &mut [u32]) -> u64
     ensures { WalkTold network.now start distances.old distances.new result }
 {
     let verdict = walk(network, start, distances);
@@ -61,13 +58,7 @@ pub extern "C" fn tivelgor_walk(network: &[u8], start: usize, distances: &mut [u
 }
 
 // Prices a route of link numbers and writes the meeting positions: the price, or its refusal.
-#[unsafe(no_mangle)]
-pub extern "C" fn tivelgor_price(
-    network: &[u8],
-    request: &[u8],
-    route: &[u16],
-    meeting: &mut [u16],
-) -> u64
+pub fn tivelgor_price(network: &[u8], request: &[u8], route: &[u16], meeting: &mut [u16]) -> u64
     ensures { PriceTold network.now request.now route.now meeting.old meeting.new result }
 {
     let answer = price(network, request, route, meeting);
@@ -82,8 +73,7 @@ pub extern "C" fn tivelgor_price(
 }
 
 // Finds the right plan, as the search does: 4,096 × cost + steps, or its refusal.
-#[unsafe(no_mangle)]
-pub extern "C" fn tivelgor_search(
+pub fn tivelgor_search(
     network: &[u8],
     request: &[u8],
     distances: &mut [u32],

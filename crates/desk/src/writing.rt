@@ -15,16 +15,14 @@ const FIRST_WEIGHT: usize = FIRST_NODE + MOST_RIDERS;
 const VALUE_NUMBERS: usize = FIRST_WEIGHT + MOST_RIDERS;
 
 // Writes the record of a network from n and its links' numbers, four for each: its length, or its refusal.
-#[unsafe(no_mangle)]
-pub extern "C" fn tivelgor_write_network(n: usize, links: &[u16], room: &mut [u8]) -> u64
+pub fn tivelgor_write_network(n: usize, links: &[u16], room: &mut [u8]) -> u64
     ensures { NetworkWriteTold n links.now room.old room.new result }
 {
     length_told(write_network(n, links, room))
 }
 
 // Writes the record of a request for a network of n nodes from the numbers of its value: its length, or its refusal.
-#[unsafe(no_mangle)]
-pub extern "C" fn tivelgor_write_request(n: usize, request: &[u64], room: &mut [u8]) -> u64
+pub fn tivelgor_write_request(n: usize, request: &[u64], room: &mut [u8]) -> u64
     ensures { RequestWriteTold n request.now room.old room.new result }
 {
     if request.len() != VALUE_NUMBERS {

@@ -12,8 +12,7 @@ use rules::{FIRST_REFUSAL, LONGEST_ROUTE, Priced, Refusal, Verdict};
 
 // Prices a route whose link numbers come as bytes, the high one first: gives the price, or FIRST_REFUSAL plus a refusal's
 // number.
-#[unsafe(no_mangle)]
-pub extern "C" fn tivelgor_tablet_price(network: &[u8], request: &[u8], route: &[u8]) -> u64
+pub fn tivelgor_tablet_price(network: &[u8], request: &[u8], route: &[u8]) -> u64
     ensures { Tablet network.now request.now route.now result }
 {
     let answer = tablet_answer(network, request, route);
