@@ -1,8 +1,8 @@
 // What the search answers to a row of numbers and leaves in the rooms, and whether that is right.
 use crate::rows::*;
 use crate::writing::*;
-use libc::STDOUT_FILENO;
 use rules::Planned;
+use std::io;
 
 // The places that the rooms have, and what stands in each before the search.
 pub const DISTANCES: usize = 12;
@@ -164,22 +164,27 @@ pub fn put(answer: &mut [usize; ANSWER], first: usize, numbers: &[usize]) {
 }
 
 // Whether the answer for a town is the right one. Prints the first number of it that is wrong.
-pub fn passes(town: usize, got: &[usize; ANSWER], right: &[usize; ANSWER]) -> bool {
+pub fn passes(
+    rt: &impl Print,
+    town: usize,
+    got: &[usize; ANSWER],
+    right: &[usize; ANSWER],
+) -> io::Result<bool> {
     let i = first_difference(got, right);
     if i < ANSWER {
-        print_number(b"town ", town);
-        print_number(b", number ", i);
-        print_number(b": got ", got[i]);
-        print_number(b", not ", right[i]);
-        io::write_all(STDOUT_FILENO, b"\n");
-        return false;
+        print_number(rt, b"town ", town)?;
+        print_number(rt, b", number ", i)?;
+        print_number(rt, b": got ", got[i])?;
+        print_number(rt, b", not ", right[i])?;
+        rt.write_all(b"\n")?;
+        return Ok(false);
     }
-    true
+    Ok(true)
 }
 
-pub fn print_number(before: &[u8], x: usize) {
-    io::write_all(STDOUT_FILENO, before);
-    io::print_decimal(STDOUT_FILENO, x as u64);
+pub fn print_number(rt: &impl Print, before: &[u8], x: usize) -> io::Result<()> {
+    rt.write_all(before)?;
+    rt.print(x)
 }
 
 // The first number in which two rows of numbers differ, or how many the shorter one has.

@@ -15,9 +15,9 @@ mod writing;
 
 use answers::*;
 use finishes::best_finish;
-use libc::STDOUT_FILENO;
 use plans::Plan;
 use rows::*;
+use std::io;
 use walks::PAIRS;
 
 const TOWNS: usize = 1000;
@@ -36,21 +36,25 @@ const OUTCOMES: usize = 4;
 // The set of all of 0 to 7 riders, numbered by its bits.
 const ALL_OF: [usize; 8] = [0, 1, 3, 7, 15, 31, 63, 127];
 
-fn main() {
+fn main(rt: HostRuntime) -> io::Result<()> {
     let mut counts = [0; OUTCOMES];
     let mut i = 0;
     while i < TOWNS {
-        let came = outcome(i);
+        let came = outcome(&rt, i)?;
         if came == WRONG {
-            return;
+            return Ok(());
         }
         counts = counted(counts, came);
         i += 1;
     }
-    print_number(b"", counts[PLANNED]);
-    print_number(b" towns planned, ", counts[TIED]);
-    print_number(b" planned by the order of the steps, ", counts[REFUSED]);
-    io::write_all(STDOUT_FILENO, b" without a plan, 0 wrong\n");
+    print_number(&rt, b"", counts[PLANNED])?;
+    print_number(&rt, b" towns planned, ", counts[TIED])?;
+    print_number(
+        &rt,
+        b" planned by the order of the steps, ",
+        counts[REFUSED],
+    )?;
+    rt.write_all(b" without a plan, 0 wrong\n")
 }
 
 fn counted(counts: [usize; OUTCOMES], came: usize) -> [usize; OUTCOMES] {
@@ -61,17 +65,17 @@ fn counted(counts: [usize; OUTCOMES], came: usize) -> [usize; OUTCOMES] {
 }
 
 // What comes of town i. Says what is wrong where the search and the listing differ.
-fn outcome(i: usize) -> usize {
+fn outcome(rt: &impl Print, i: usize) -> io::Result<usize> {
     let town = generator::town(i);
     let distances = walks::distances(&town);
     let source = town[SOURCE];
     let plan = best_finish(&town, &distances, all_riders(&town), source);
     let mut listed = said(plan);
     put_rooms(&mut listed, &town, &distances);
-    if !passes(i, &searched(&town), &listed) {
-        return WRONG;
+    if !passes(rt, i, &searched(&town), &listed)? {
+        return Ok(WRONG);
     }
-    kind(plan)
+    Ok(kind(plan))
 }
 
 fn kind(plan: Plan) -> usize {

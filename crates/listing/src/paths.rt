@@ -4,7 +4,7 @@ use crate::rows::*;
 use crate::sums::plus;
 
 // Links that follow each other from a node on.
-#[derive(Drop)]
+#[derive(Clone, Copy)]
 pub struct Path {
     pub start: usize,
     pub count: usize,

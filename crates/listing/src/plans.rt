@@ -4,7 +4,7 @@ use crate::meetings::Meetings;
 use crate::paths::*;
 use crate::rows::*;
 
-#[derive(Drop)]
+#[derive(Clone, Copy)]
 pub struct Plan {
     pub cost: usize,
     pub count: usize,

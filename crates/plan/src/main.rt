@@ -2,12 +2,16 @@
 // none.
 #![tactic(auto)]
 
-use libc::{STDIN_FILENO, STDOUT_FILENO};
+use std::io;
+use std::io::Read;
 
-fn main() {
+fn main(rt: HostRuntime) -> io::Result<()> {
     let mut input = [0u8; output::MOST_INPUT];
-    let count = io::read_full(STDIN_FILENO, &mut input);
+    let mut reader = rt.stdin().take(output::MOST_INPUT as u64);
+    let read = io::copy(&mut reader, &mut input.as_mut_slice())? as usize;
+    // No more are ever read, but std's copy does not promise it.
+    let count = read.min(output::MOST_INPUT);
     let mut text = [0u8; output::TEXT_PLACES];
     let length = output::write_text(&input[..count], &mut text);
-    io::write_all(STDOUT_FILENO, &text[..length]);
+    rt.write_all(&text[..length])
 }

@@ -5,6 +5,7 @@ use crate::rooms::*;
 use crate::text::{ends_before, part, same, word};
 use desk::{tivelgor_network, tivelgor_price, tivelgor_request, tivelgor_search, tivelgor_walk};
 use rules::{FIRST_REFUSAL, Request};
+use std::io;
 use tablet::tivelgor_tablet_price;
 
 // What n counts for in the number that the desk tells.
@@ -20,33 +21,39 @@ pub struct Given {
 }
 
 // Whether the call of a line gives the right answer and leaves the right rooms.
-pub fn is_right(line: &[u8], network: &[u8], request: &[u8], route: &[u8]) -> bool {
+pub fn is_right(
+    rt: &impl Print,
+    line: &[u8],
+    network: &[u8],
+    request: &[u8],
+    route: &[u8],
+) -> io::Result<bool> {
     let entry = word(line);
     if same(entry, b"network") {
-        return reads_network(line, network);
+        return reads_network(rt, line, network);
     }
     if same(entry, b"request") {
-        return reads_request(line, network, request);
+        return reads_request(rt, line, network, request);
     }
     if same(entry, b"link") {
-        return lends_link(line, network);
+        return lends_link(rt, line, network);
     }
     if same(entry, b"size") {
-        return finds_size(line, network);
+        return finds_size(rt, line, network);
     }
     if same(entry, b"walk") {
-        return walks(line, network);
+        return walks(rt, line, network);
     }
     if same(entry, b"price") {
-        return prices(line, network, request, route);
+        return prices(rt, line, network, request, route);
     }
     if same(entry, b"tablet") {
-        return prices_on_tablet(line, network, request, route);
+        return prices_on_tablet(rt, line, network, request, route);
     }
     if same(entry, b"search") {
-        return searches(line, network, request);
+        return searches(rt, line, network, request);
     }
-    wrong(b"there is no such entry or record")
+    wrong(rt, b"there is no such entry or record")
 }
 
 // What a line gives an entry that takes so many numbers and rooms.
@@ -61,19 +68,19 @@ pub fn given_to(line: &[u8], numbers: usize, rooms: usize) -> Given {
     }
 }
 
-pub fn not_given() -> bool {
-    wrong(b"not the numbers, places and parts of the entry")
+pub fn not_given(rt: &impl Print) -> io::Result<bool> {
+    wrong(rt, b"not the numbers, places and parts of the entry")
 }
 
 // Beside what the desk tells, reading gives n and m, or 0 for both where it refuses.
-fn reads_network(line: &[u8], network: &[u8]) -> bool {
+fn reads_network(rt: &impl Print, line: &[u8], network: &[u8]) -> io::Result<bool> {
     let told = tivelgor_network(network);
     let read = records::read_network(network);
     let sizes = SHORT_RANGE * (read.n as u64 % SHORT_RANGE) + read.m as u64 % SHORT_RANGE;
     if !given_to(line, 0, 0).fits {
-        return not_given();
+        return not_given(rt);
     }
-    answer_is(told, part(line, 1)) && is_number(b"n and m", sizes, value_told(told))
+    Ok(answer_is(rt, told, part(line, 1))? && is_number(rt, b"n and m", sizes, value_told(told))?)
 }
 
 fn value_told(told: u64) -> u64 {
@@ -83,15 +90,17 @@ fn value_told(told: u64) -> u64 {
     told
 }
 
-fn reads_request(line: &[u8], network: &[u8], request: &[u8]) -> bool {
+fn reads_request(rt: &impl Print, line: &[u8], network: &[u8], request: &[u8]) -> io::Result<bool> {
     let read = records::read_request(network, request);
     let mut value = [0; LONGS];
     put_value(read.request, &mut value);
     if !given_to(line, 0, 1).fits {
-        return not_given();
+        return not_given(rt);
     }
-    answer_is(tivelgor_request(network, request), part(line, 1))
-        && longs_are(b"value", &value, part(line, 2), 0)
+    Ok(
+        answer_is(rt, tivelgor_request(network, request), part(line, 1))?
+            && longs_are(rt, b"value", &value, part(line, 2), 0)?,
+    )
 }
 
 // Puts the numbers of a request's value: source, target, bus weight and rider count, the nodes, the weights.
@@ -110,15 +119,18 @@ fn put_value(request: Request, value: &mut [u64; LONGS]) {
     }
 }
 
-fn lends_link(line: &[u8], network: &[u8]) -> bool {
+fn lends_link(rt: &impl Print, line: &[u8], network: &[u8]) -> io::Result<bool> {
     let given = given_to(line, 1, 1);
     let link = records::link(network, given.first);
     let mut bytes = [0; LONGS];
     put_bytes(link, &mut bytes);
     if !given.fits {
-        return not_given();
+        return not_given(rt);
     }
-    answer_is(link.len() as u64, part(line, 1)) && longs_are(b"part", &bytes, part(line, 2), 0)
+    Ok(
+        answer_is(rt, link.len() as u64, part(line, 1))?
+            && longs_are(rt, b"part", &bytes, part(line, 2), 0)?,
+    )
 }
 
 fn put_bytes(link: &[u8], bytes: &mut [u64; LONGS]) {
@@ -132,32 +144,41 @@ fn put_bytes(link: &[u8], bytes: &mut [u64; LONGS]) {
     }
 }
 
-fn finds_size(line: &[u8], network: &[u8]) -> bool {
+fn finds_size(rt: &impl Print, line: &[u8], network: &[u8]) -> io::Result<bool> {
     let size = records::network_size(network);
     if !given_to(line, 0, 0).fits {
-        return not_given();
+        return not_given(rt);
     }
-    answer_is(size as u64, part(line, 1))
+    answer_is(rt, size as u64, part(line, 1))
 }
 
-fn walks(line: &[u8], network: &[u8]) -> bool {
+fn walks(rt: &impl Print, line: &[u8], network: &[u8]) -> io::Result<bool> {
     let mut distances = [BEFORE as u32; WORDS];
     let given = given_to(line, 2, 1);
     let places = given.second;
     if !given.fits || WORDS < places {
-        return not_given();
+        return not_given(rt);
     }
     let answer = tivelgor_walk(network, given.first, &mut distances[0..places]);
-    answer_is(answer, part(line, 1)) && words_are(b"distances", &distances, part(line, 2))
+    Ok(
+        answer_is(rt, answer, part(line, 1))?
+            && words_are(rt, b"distances", &distances, part(line, 2))?,
+    )
 }
 
-fn prices(line: &[u8], network: &[u8], request: &[u8], route: &[u8]) -> bool {
+fn prices(
+    rt: &impl Print,
+    line: &[u8],
+    network: &[u8],
+    request: &[u8],
+    route: &[u8],
+) -> io::Result<bool> {
     let links = shorts_of(route);
     let mut meeting = [BEFORE as u16; SHORTS];
     let given = given_to(line, 1, 1);
     let places = given.first;
     if !given.fits || SHORTS < places {
-        return not_given();
+        return not_given(rt);
     }
     let answer = tivelgor_price(
         network,
@@ -165,20 +186,29 @@ fn prices(line: &[u8], network: &[u8], request: &[u8], route: &[u8]) -> bool {
         first(&links, route.len() / 2),
         &mut meeting[0..places],
     );
-    answer_is(answer, part(line, 1)) && shorts_are(b"meeting", &meeting, part(line, 2))
+    Ok(
+        answer_is(rt, answer, part(line, 1))?
+            && shorts_are(rt, b"meeting", &meeting, part(line, 2))?,
+    )
 }
 
-fn prices_on_tablet(line: &[u8], network: &[u8], request: &[u8], route: &[u8]) -> bool {
+fn prices_on_tablet(
+    rt: &impl Print,
+    line: &[u8],
+    network: &[u8],
+    request: &[u8],
+    route: &[u8],
+) -> io::Result<bool> {
     let given = given_to(line, 1, 0);
     let bytes = given.first;
     if !given.fits || route.len() < bytes {
-        return not_given();
+        return not_given(rt);
     }
     let answer = tivelgor_tablet_price(network, request, &route[0..bytes]);
-    answer_is(answer, part(line, 1))
+    answer_is(rt, answer, part(line, 1))
 }
 
-fn searches(line: &[u8], network: &[u8], request: &[u8]) -> bool {
+fn searches(rt: &impl Print, line: &[u8], network: &[u8], request: &[u8]) -> io::Result<bool> {
     let mut distances = [BEFORE as u32; WORDS];
     let mut table = [BEFORE; LONGS];
     let mut steps = [BEFORE as u16; SHORTS];
@@ -187,7 +217,7 @@ fn searches(line: &[u8], network: &[u8], request: &[u8]) -> bool {
     let table_places = given.second;
     let step_places = given.third;
     if !given.fits || WORDS < distance_places || LONGS < table_places || SHORTS < step_places {
-        return not_given();
+        return not_given(rt);
     }
     let answer = tivelgor_search(
         network,
@@ -196,8 +226,10 @@ fn searches(line: &[u8], network: &[u8], request: &[u8]) -> bool {
         &mut table[0..table_places],
         &mut steps[0..step_places],
     );
-    answer_is(answer, part(line, 1))
-        && words_are(b"distances", &distances, part(line, 2))
-        && longs_are(b"table", &table, part(line, 3), BEFORE)
-        && shorts_are(b"steps", &steps, part(line, 4))
+    Ok(
+        answer_is(rt, answer, part(line, 1))?
+            && words_are(rt, b"distances", &distances, part(line, 2))?
+            && longs_are(rt, b"table", &table, part(line, 3), BEFORE)?
+            && shorts_are(rt, b"steps", &steps, part(line, 4))?,
+    )
 }

@@ -10,8 +10,9 @@ mod text;
 mod writing;
 
 use layout::*;
-use libc::{STDIN_FILENO, STDOUT_FILENO};
 use rooms::{print_number, wrong};
+use std::io;
+use std::io::Read;
 use text::*;
 
 // The bytes of the longest file, and one more.
@@ -26,17 +27,18 @@ struct Progress {
     sizes: [usize; KINDS],
 }
 
-fn main() {
+fn main(rt: HostRuntime) -> io::Result<()> {
     let mut text = [0u8; TEXT];
-    let size = io::read_full(STDIN_FILENO, &mut text);
-    if size == TEXT {
-        wrong(b"the file is too long");
-        return;
+    let mut reader = rt.stdin().take(TEXT as u64);
+    let size = io::copy(&mut reader, &mut text.as_mut_slice())? as usize;
+    if TEXT <= size {
+        wrong(&rt, b"the file is too long")?;
+        return Ok(());
     }
-    run(&text[..size]);
+    run(&rt, &text[..size])
 }
 
-fn run(text: &[u8]) {
+fn run(rt: &impl Print, text: &[u8]) -> io::Result<()> {
     let mut handed = [255u8; HANDED];
     let mut progress = Progress {
         right: true,
@@ -49,71 +51,88 @@ fn run(text: &[u8]) {
         let end = find(b'\n', text, at);
         let line = &text[at..end];
         number = number % TEXT + 1;
-        progress = after_line(progress, line, &mut handed);
+        progress = after_line(rt, progress, line, &mut handed)?;
         if !progress.right {
-            show(number, line);
-            return;
+            return show(rt, number, line);
         }
         at = end + 1;
     }
-    print_number(b"", progress.calls as u64);
-    io::write_all(STDOUT_FILENO, b" calls, 0 wrong\n");
+    print_number(rt, b"", progress.calls as u64)?;
+    rt.write_all(b" calls, 0 wrong\n")
 }
 
-fn show(number: usize, line: &[u8]) {
-    print_number(b"line ", number as u64);
-    io::write_all(STDOUT_FILENO, b": ");
-    wrong(line);
+fn show(rt: &impl Print, number: usize, line: &[u8]) -> io::Result<()> {
+    print_number(rt, b"line ", number as u64)?;
+    rt.write_all(b": ")?;
+    wrong(rt, line)?;
+    Ok(())
 }
 
-fn after_line(progress: Progress, line: &[u8], handed: &mut [u8; HANDED]) -> Progress {
+fn after_line(
+    rt: &impl Print,
+    progress: Progress,
+    line: &[u8],
+    handed: &mut [u8; HANDED],
+) -> io::Result<Progress> {
     let first = byte_at(line, 0);
     if first == b'#' || first == b'\n' {
-        return progress;
+        return Ok(progress);
     }
     let kind = kind_named(word(line));
     if kind < KINDS {
-        return after_record(progress, kind, line, handed);
+        return after_record(rt, progress, kind, line, handed);
     }
-    after_call(progress, line, handed)
+    after_call(rt, progress, line, handed)
 }
 
 // What the calls from here on are handed.
 fn after_record(
+    rt: &impl Print,
     progress: Progress,
     kind: usize,
     line: &[u8],
     handed: &mut [u8; HANDED],
-) -> Progress {
+) -> io::Result<Progress> {
     let mut sizes = progress.sizes;
     let size = lay_out(kind, part(line, 0), handed);
     sizes[kind % KINDS] = size;
-    Progress {
-        right: size <= RECORD && ends_before(line, 1) || wrong(b"nothing that can be handed over"),
+    Ok(Progress {
+        right: size <= RECORD && ends_before(line, 1)
+            || wrong(rt, b"nothing that can be handed over")?,
         calls: progress.calls,
         sizes,
-    }
+    })
 }
 
-fn after_call(progress: Progress, line: &[u8], handed: &[u8; HANDED]) -> Progress {
+fn after_call(
+    rt: &impl Print,
+    progress: Progress,
+    line: &[u8],
+    handed: &[u8; HANDED],
+) -> io::Result<Progress> {
     let sizes = progress.sizes;
-    Progress {
-        right: is_right(line, handed, sizes),
+    Ok(Progress {
+        right: is_right(rt, line, handed, sizes)?,
         calls: progress.calls % TEXT + 1,
         sizes,
-    }
+    })
 }
 
-fn is_right(line: &[u8], handed: &[u8; HANDED], sizes: [usize; KINDS]) -> bool {
+fn is_right(
+    rt: &impl Print,
+    line: &[u8],
+    handed: &[u8; HANDED],
+    sizes: [usize; KINDS],
+) -> io::Result<bool> {
     let entry = word(line);
     if same(entry, b"write-network") {
-        return writing::writes_network(line, lent(handed, LINKS, sizes[LINKS]));
+        return writing::writes_network(rt, line, lent(handed, LINKS, sizes[LINKS]));
     }
     if same(entry, b"write-request") {
-        return writing::writes_request(line, lent(handed, VALUE, sizes[VALUE]));
+        return writing::writes_request(rt, line, lent(handed, VALUE, sizes[VALUE]));
     }
     let network = lent(handed, NETWORK, sizes[NETWORK]);
     let request = lent(handed, REQUEST, sizes[REQUEST]);
     let route = lent(handed, ROUTE, sizes[ROUTE]);
-    calls::is_right(line, network, request, route)
+    calls::is_right(rt, line, network, request, route)
 }
