@@ -18,7 +18,7 @@ returns-in_default c =
     let told = c.in_default.is in
     told
     ∙ sym
-    (route_link _ _ _ c.if-route-gt-LONGEST_ROUTE.false c.loop-i.i c.loop-i.invariant.0 _ c.loop-i-test.true
+    (route_link _ _ _ (omega arith) c.loop-i.i c.loop-i.invariant.0 _ c.loop-i-test.true
     (rw (c.link_at-k.ensures, c.loop-i.invariant.1) at (sym c.link_verdict-verdict.ensures ∙ told)))
 
 pub to-node-requires : goal.to-node-requires
@@ -39,11 +39,11 @@ pub returns-then-node-q : goal.returns-then-node-q
 returns-then-node-q c =
     c.refused-then-node-q.ensures
     ∙ sym
-    (route_36 _ _ _ c.if-route-gt-LONGEST_ROUTE.false c.loop-i.i c.loop-i.invariant.0 c.loop-i-test.false
+    (route_36 _ _ _ (omega arith) c.loop-i.i c.loop-i.invariant.0 c.loop-i-test.false
     c.loop-i.invariant.1 c.if-node-q.true)
 
 pub returns : goal.returns
 returns c =
     sym
-    (route_driven _ _ _ c.if-route-gt-LONGEST_ROUTE.false c.loop-i.i c.loop-i.invariant.0 c.loop-i-test.false
+    (route_driven _ _ _ (omega arith) c.loop-i.i c.loop-i.invariant.0 c.loop-i-test.false
     c.loop-i.invariant.1 c.if-node-q.false)

@@ -25,4 +25,4 @@ pub returns : goal.returns
 returns c =
     let starts = sym c.from-start.ensures.value ∙ c.if-start-v.false in
     c.packed_step.ensures
-    ∙ rw c.drive-cost.ensures.value (open_drive _ _ _ _ starts (omega (arith, c.drive-cost.ensures.value, c.if-cost-ge-CLOSED.false)))
+    ∙ rw c.drive-cost.ensures.value (open_drive _ _ _ _ starts (omega (arith, c.drive-cost.ensures.value)))

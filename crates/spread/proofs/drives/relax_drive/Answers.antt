@@ -23,7 +23,7 @@ arc : (c : After-to-end) →
     DriveLink c.args.network.now c.args.weight c.args.k c.from-start.result c.to-end.result
     (packed_step (c.args.weight * c.drive-cost.result))
 arc c =
-    drive_arc c.requires.0 c.from-start.ensures.value c.to-end.ensures.value (omega (arith, c.if-cost-ge-CLOSED.false))
+    drive_arc c.requires.0 c.from-start.ensures.value c.to-end.ensures.value (omega arith)
     c.args.weight c.drive-cost.ensures.value
 
 joins : (c : After-to-end) →

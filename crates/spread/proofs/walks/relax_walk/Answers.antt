@@ -15,7 +15,7 @@ returns-then-cost-ge-CLOSED c =
 arc : (c : After-to-end) →
     Walkable c.args.network.now c.args.k c.from-start.result c.to-end.result c.walk-cost.result
 arc c =
-    walk_arc c.requires.0 c.from-start.ensures.value c.to-end.ensures.value (omega (arith, c.if-cost-ge-CLOSED.false))
+    walk_arc c.requires.0 c.from-start.ensures.value c.to-end.ensures.value (omega arith)
     c.walk-cost.ensures.value
 
 joins : (c : After-to-end) →
