@@ -5,13 +5,13 @@
 use std::io;
 use std::io::Read;
 
-fn main(rt: HostRuntime) -> io::Result<()> {
+fn main(rt: HostRuntime) {
     let mut input = [0u8; output::MOST_INPUT];
-    let mut reader = rt.stdin().take(output::MOST_INPUT as u64);
-    let read = io::copy(&mut reader, &mut input.as_mut_slice())? as usize;
-    // No more are ever read, but std's copy does not promise it.
-    let count = read.min(output::MOST_INPUT);
+    let mut room = input.as_mut_slice();
+    // Where a read fails, what came before counts as all of the input; where a write fails, the rest is lost (6.4).
+    let _ = io::copy(&mut rt.stdin().take(output::MOST_INPUT as u64), &mut room);
+    let count = output::MOST_INPUT.saturating_sub(room.len());
     let mut text = [0u8; output::TEXT_PLACES];
     let length = output::write_text(&input[..count], &mut text);
-    rt.write_all(&text[..length])
+    let _ = rt.write_all(&text[..length]);
 }
