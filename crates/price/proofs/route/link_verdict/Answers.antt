@@ -1,4 +1,5 @@
 -- 33, 34 and 35, a law for each.
+use native.Mathlib.Omega.{arith}
 use mathlib.Core.Path.{◌∙◌, sym}
 use Rattle.price.proofs.RouteLaws.{link_33, link_34, link_35, link_driven}
 use Rattle.price.proofs.route.link_verdict.Goals as goal
@@ -18,7 +19,7 @@ returns-then-start-node c =
     c.refused-then-start-node.ensures
     ∙ sym
     (link_35 _ _ _ _ c.link_count.ensures.value c.if-link_count-k.false c.drive-cost.ensures.value
-    c.if-cost-ge-CLOSED.false c.from-start.ensures.value c.if-start-node.true)
+    (omega arith) c.from-start.ensures.value c.if-start-node.true)
 
 pub returns : goal.returns
 returns c =

@@ -1,7 +1,7 @@
 use mathlib.Core.Path.{◌≡◌}
 use native.Mathlib.Omega.{arith}
 use native.Mathlib.Nat.{pow-le-pow_right}
-use Prim.Native.Nat.{◌-◌, ◌^◌, ◌<◌}
+use Prim.Native.Nat.{◌^◌, ◌<◌}
 use Rattle.records.proofs.NumberLaws.{read_none, read_more}
 use Rattle.records.proofs.inner.number.Goals as goal
 use Rattle.records.proofs.inner.number.Goals.{In-loop-k}

@@ -1,7 +1,6 @@
-use Prim.Native.Nat.{◌-◌}
 use native.Mathlib.Omega.{arith}
 use mathlib.Core.Path.{◌≡◌, refl}
-use Rattle.rules.specs.Request.{rider_node, rider_weight, seven_places, request_value}
+use Rattle.rules.specs.Request.{seven_places, request_value}
 use Rattle.rules.proofs.SoundRequestLaws.{place_more}
 use Rattle.records.proofs.request.request_value.Goals as goal
 

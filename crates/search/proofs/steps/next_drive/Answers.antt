@@ -1,4 +1,3 @@
-use Prim.Native.Nat.{◌-◌}
 use native.Mathlib.Omega.{arith}
 use Rattle.search.proofs.StepLaws.{passing_none, passing_more, passing_found, made_up, not_made_up}
 use Rattle.search.proofs.steps.next_drive.Goals as goal

@@ -1,6 +1,5 @@
 use mathlib.Core.Path.{◌≡◌}
 use native.Mathlib.Omega.{arith}
-use Prim.Native.Nat.{◌-◌}
 use Rattle.rules.specs.Network.{link_count}
 use Rattle.spread.proofs.RelaxingLaws.{progress_none, next_link, relaxing_kept, lent_after}
 use Rattle.spread.proofs.drives.drive_round.Goals as goal

@@ -1,4 +1,4 @@
-use Prim.Native.Nat.{◌-◌, ◌*◌}
+use Prim.Native.Nat.{◌*◌}
 use native.Mathlib.Omega.{arith}
 use lib.ListN.{length}
 use Rattle.table.proofs.DistanceLaws.{row_fits, row_lent, walked_none, walked_more, walked_all}

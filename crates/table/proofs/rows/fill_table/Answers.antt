@@ -1,4 +1,4 @@
-use Prim.Native.Nat.{◌-◌, ◌^◌}
+use Prim.Native.Nat.{◌^◌}
 use mathlib.Core.Path.{◌≡◌}
 use native.Mathlib.Omega.{arith}
 use Rattle.table.proofs.TableLaws.{filled_none, next_room, filled_more, filled_all}

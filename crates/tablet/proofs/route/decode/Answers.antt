@@ -1,7 +1,5 @@
-use Prim.Native.Nat.{◌-◌}
 use native.Mathlib.Omega.{arith}
 use mathlib.Core.Path.{◌≡◌}
-use Rattle.rules.specs.Numbers.{two}
 use Rattle.rules.proofs.WritingLaws.{written_none, written_more}
 use Rattle.tablet.proofs.route.decode.Goals as goal
 

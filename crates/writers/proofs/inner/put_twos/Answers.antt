@@ -1,4 +1,3 @@
-use Prim.Native.Nat.{◌-◌}
 use native.Mathlib.Omega.{arith}
 use borrow.Author.Rules.{rules}
 use Rattle.writers.proofs.PieceLaws.{twos_none, twos_end, twos_one, twos_all}
