@@ -7,7 +7,7 @@ ghost use Rattle.lines.specs.Text.{longest_line, longest_field, Room, Added, Rea
 pub const LONGEST_LINE: usize = 96;
 
 // The text is the bytes from the start on.
-#[derive(Drop)]
+#[derive(Clone, Copy)]
 pub struct Line {
     pub bytes: [u8; LONGEST_LINE],
     pub start: usize,

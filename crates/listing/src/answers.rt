@@ -68,7 +68,7 @@ pub fn searched(town: &[usize; NUMBERS]) -> [usize; ANSWER] {
 }
 
 // How long the two records are.
-#[derive(Drop)]
+#[derive(Clone, Copy)]
 struct Sizes {
     network: usize,
     request: usize,

@@ -5,13 +5,13 @@ use crate::rows::*;
 use crate::sums::*;
 use crate::walks::{PAIRS, distance};
 
-#[derive(Drop)]
+#[derive(Clone, Copy)]
 pub struct Meetings {
     pub price: usize,
     pub positions: [usize; MOST_RIDERS],
 }
 
-#[derive(Drop)]
+#[derive(Clone, Copy)]
 struct Nearest {
     position: usize,
     distance: usize,

@@ -11,14 +11,14 @@ use rules::{MOST_NODES, MOST_RIDERS, NO_DISTANCE, Priced, Refusal, Request, Verd
 use walk::inner::walk_from;
 
 // A position of a route and a rider's walking distance to it.
-#[derive(Drop)]
+#[derive(Clone, Copy)]
 pub struct Spot {
     pub position: usize,
     pub distance: u32,
 }
 
 // A price or its refusal, and beside a price the riders' meeting positions.
-#[derive(Drop)]
+#[derive(Clone, Copy)]
 pub struct RoutePrice {
     pub answer: Priced,
     pub meetings: [u16; MOST_RIDERS],

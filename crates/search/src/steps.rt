@@ -12,7 +12,7 @@ use rules::{CLOSED, FIRST_DRIVE, NO_FINISH, Request};
 use table::inner::{first_meeting, rider_bit, value};
 
 // A step of the plan, and where it leads: the riders then still to be met, and the node.
-#[derive(Drop)]
+#[derive(Clone, Copy)]
 pub struct Move {
     pub step: usize,
     pub riders: u32,
@@ -20,7 +20,7 @@ pub struct Move {
 }
 
 // The lowest tight meeting, where there is one.
-#[derive(Drop)]
+#[derive(Clone, Copy)]
 pub enum NextMeeting {
     Met(Move),
     Nobody,

@@ -11,7 +11,7 @@ use rules::{NO_DISTANCE, NO_FINISH, Request};
 
 // The lowest rider of those that are left to be tried: whom that leaves to be tried and to be met, what the step takes,
 // and the value behind it.
-#[derive(Drop)]
+#[derive(Clone, Copy)]
 pub struct FirstMeeting {
     pub rider: u32,
     pub left: u32,

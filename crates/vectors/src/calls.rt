@@ -12,7 +12,7 @@ use tablet::tivelgor_tablet_price;
 const SHORT_RANGE: u64 = 65536;
 
 // Up to three numbers that a line gives its entry, and whether these and the parts of the line are what the entry takes.
-#[derive(Drop)]
+#[derive(Clone, Copy)]
 pub struct Given {
     pub first: usize,
     pub second: usize,

@@ -19,7 +19,7 @@ use text::*;
 const TEXT: usize = 524288;
 
 // What came of the lines so far.
-#[derive(Drop)]
+#[derive(Clone, Copy)]
 struct Progress {
     right: bool,
     calls: usize,

@@ -12,14 +12,14 @@ pub const EVERY_BIT: u64 = 18446744073709551615;
 const LARGE: u64 = 1844674407370955161;
 
 // How far a part is read, and how many numbers were put into the list.
-#[derive(Drop)]
+#[derive(Clone, Copy)]
 struct Reading {
     at: usize,
     count: usize,
 }
 
 // Digits, or the sign that stands for every bit; and where that ends.
-#[derive(Drop)]
+#[derive(Clone, Copy)]
 struct Plain {
     value: u64,
     next: usize,

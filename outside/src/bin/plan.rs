@@ -22,7 +22,7 @@ const CASES: u64 = 1_000;
 const LEAST: usize = 5;
 /// How many run at a time.
 const WORKERS: u64 = 2;
-/// Long enough for `plan` to start, under the emulator too, and to wait for more than the first piece.
+/// Long enough for `plan` to start, and to wait for more than the first piece.
 const FIRST_PAUSE: Duration = Duration::from_millis(120);
 const PAUSE: Duration = Duration::from_millis(10);
 

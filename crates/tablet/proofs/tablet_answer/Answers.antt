@@ -1,4 +1,5 @@
 -- The records' refusals, 38, 32, and then the route's answer.
+use native.Mathlib.Omega.{arith}
 use native.Mathlib.Nat.{sub-zero}
 use mathlib.Core.Path.{refl, ap}
 use mathlib.Core.Bool.{not}
@@ -25,7 +26,7 @@ returns-then-count-gt-LONGEST_ROUTE c =
     let read = c.read_request-read.ensures in
     record {
       meetings = _;
-      pricing = check_passed _ _ read _ _ c.in_default.is (ap not (eq-eqb _ _ c.if-route-ne0.false))
+      pricing = check_passed _ _ read _ _ c.in_default.is (ap not (eq-eqb _ _ (omega arith)))
           (refused (refuse 32 0) (route_32 _ _ _ (rw route_size c.if-count-gt-LONGEST_ROUTE.true)) refl refl);
     }
 
@@ -38,6 +39,6 @@ returns c =
     record {
       meetings = _;
       pricing = check_passed _ _ c.read_request-read.ensures _ _ c.in_default.is
-          (ap not (eq-eqb _ _ c.if-route-ne0.false))
+          (ap not (eq-eqb _ _ (omega arith)))
           (rw (sub-zero, decoded_route _ c.decode.ensures) at c.price_route-priced.ensures);
     }

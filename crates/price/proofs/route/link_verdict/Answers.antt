@@ -25,4 +25,4 @@ pub returns : goal.returns
 returns c =
     sym
     (link_driven _ _ _ _ c.link_count.ensures.value c.if-link_count-k.false c.drive-cost.ensures.value
-    c.if-cost-ge-CLOSED.false c.from-start.ensures.value c.if-start-node.false)
+    (omega arith) c.from-start.ensures.value (omega arith))

@@ -26,7 +26,7 @@ pub returns-then-makes_up : goal.returns-then-makes_up
 returns-then-makes_up c =
     let next = c.first_meeting-next.ensures in
     let met = c.first_meeting-next.result in
-    let made = made_up c.value-here.result (met.step + met.rest) c.makes_up.ensures c.if-makes_up.true in
+    let made = made_up c.value-here.result (met.step + met.rest) c.makes_up.ensures (cc) in
     rw next.still
     (next_met c.requires.0
     (trying_found c.requires.0 c.requires.1 c.loop-left.invariant met.rider next.lowest
@@ -41,7 +41,7 @@ pub loop-left-preserved : goal.loop-left-preserved
 loop-left-preserved c =
     let next = c.first_meeting-next.ensures in
     let met = c.first_meeting-next.result in
-    let loose = not_made_up c.value-here.result (met.step + met.rest) c.makes_up.ensures c.if-makes_up.false in
+    let loose = not_made_up c.value-here.result (met.step + met.rest) c.makes_up.ensures (cc) in
     rw next.leaves
     (trying_more c.requires.0 c.requires.1 c.loop-left.invariant met.rider next.lowest
     (rw (c.value-here.ensures, next.step, next.rest) at loose))

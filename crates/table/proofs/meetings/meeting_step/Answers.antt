@@ -27,4 +27,4 @@ packed_step-requires c =
     omega (arith, mul-le-mul (c.requires.2.request.weights c.args.j c.requires.0).1 (le_of_lt distance.fits))
 
 pub returns : goal.returns
-returns c = c.packed_step.ensures ∙ rw (← c.place.ensures.value) (can_meet _ _ c.if-distance.false)
+returns c = c.packed_step.ensures ∙ rw (← c.place.ensures.value) (can_meet _ _ (λ e. omega arith))
