@@ -1,6 +1,6 @@
 -- Distances, one rider's row after the other.
 use Prim.Native.Nat.{ℕ, ◌+◌, ◌*◌, ◌≤◌, ◌<◌}
-use mathlib.Core.Path.{◌≡◌}
+use mathlib.Core.Path.{◌≡◌, refl}
 use mathlib.Core.List.{List}
 use native.Mathlib.Omega.{arith}
 use lib.ListN.{length}
@@ -21,22 +21,23 @@ module _ {network : List ℕ} {q : Request} {before : List ℕ} where
   walked_none = record { within = omega arith; walks = λ i v h. absurd (omega arith); kept = kept_none }
 
   module _ (ready : Ready network q before) {j : ℕ} {t : List ℕ} (so : WalkedRows network q j before t) where
-    -- the next row is there
-    pub row_fits : j < rider_count_of q → Lies (j * node_count network) (node_count network) (length t)
-    row_fits h =
-        record {
+    -- the next row is there, for the number of nodes that was read
+    pub row_fits : {n : ℕ} → n ≡ node_count network → j < rider_count_of q → Lies (j * n) n (length t)
+    row_fits read h =
+        rw read
+        (record {
           low = row_start (node_count network) j ready.sound.nodes (omega (arith, ready.request.riders));
           within = omega (arith, ready.places, row_within (node_count network) h, so.kept.size);
-        }
+        })
 
     pub row_lent : j < rider_count_of q → LentRoom network (row_of (node_count network) j t)
-    row_lent h = lent_row t j ready.sound (row_fits h).within
+    row_lent h = lent_row t j ready.sound (row_fits refl h).within
 
     -- one row more: what was walked from the rider's node is the rider's
     pub walked_more : {part : List ℕ} → j < rider_count_of q → Row network (rider_node_of q j) (row_of (node_count network) j t) part
         → WalkedRows network q (j + 1) before (put_row (node_count network) j t part)
     walked_more {part} h row =
-        let fits = (row_fits h).within in
+        let fits = (row_fits refl h).within in
         record {
           within = omega arith;
           walks =

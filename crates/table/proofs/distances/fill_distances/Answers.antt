@@ -1,25 +1,15 @@
-use Prim.Native.Nat.{◌*◌}
 use native.Mathlib.Omega.{arith}
-use lib.ListN.{length}
 use Rattle.table.proofs.DistanceLaws.{row_fits, row_lent, walked_none, walked_more, walked_all}
-use Rattle.table.proofs.RowLaws.{Lies}
 use Rattle.table.proofs.distances.fill_distances.Goals as goal
-use Rattle.table.proofs.distances.fill_distances.Goals.{In-loop-j-unread}
 
 pub loop-j-init : goal.loop-j-init
 loop-j-init c = walked_none
 
-fits : (c : In-loop-j-unread)
-    → Lies (c.loop-j.j * c.node_count-n.result)
-    c.node_count-n.result (length c.loop-j.distances)
-fits c =
-    rw c.node_count-n.ensures.value (row_fits c.requires c.loop-j.invariant c.loop-j-test.true)
-
 pub overflow_mul-a : goal.overflow_mul-a
-overflow_mul-a c = omega (arith, fits (goal.at.overflow_mul-a c).In-loop-j-unread)
+overflow_mul-a c = omega (arith, row_fits c.requires c.loop-j.invariant c.node_count-n.ensures.value c.loop-j-test.true)
 
 pub overflow_add-b : goal.overflow_add-b
-overflow_add-b c = omega (arith, fits (goal.at.overflow_add-b c).In-loop-j-unread)
+overflow_add-b c = omega (arith, row_fits c.requires c.loop-j.invariant c.node_count-n.ensures.value c.loop-j-test.true)
 
 pub offset_bounds-nodes-j : goal.offset_bounds-nodes-j
 offset_bounds-nodes-j c =
@@ -30,16 +20,10 @@ bounds-nodes-j c =
     omega (arith, c.requires.request.riders)
 
 pub offset_bounds-distances-a : goal.offset_bounds-distances-a
-offset_bounds-distances-a c =
-    let fits : Lies (c.loop-j.j * c.node_count-n.result) c.node_count-n.result (length c.loop-j.distances) =
-    rw c.node_count-n.ensures.value (row_fits c.requires c.loop-j.invariant c.loop-j-test.true) in
-    omega arith
+offset_bounds-distances-a c = omega (arith, row_fits c.requires c.loop-j.invariant c.node_count-n.ensures.value c.loop-j-test.true)
 
 pub slice_bounds-walk_from-end : goal.slice_bounds-walk_from-end
-slice_bounds-walk_from-end c =
-    let fits : Lies (c.loop-j.j * c.node_count-n.result) c.node_count-n.result (length c.loop-j.distances) =
-    rw c.node_count-n.ensures.value (row_fits c.requires c.loop-j.invariant c.loop-j-test.true) in
-    fits.within
+slice_bounds-walk_from-end c = (row_fits c.requires c.loop-j.invariant c.node_count-n.ensures.value c.loop-j-test.true).within
 
 pub walk_from-requires : goal.walk_from-requires
 walk_from-requires c = (
