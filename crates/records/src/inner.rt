@@ -5,6 +5,7 @@ ghost use Rattle.rules.specs.Network.{node_count, link_count, link_start, from, 
 ghost use Rattle.rules.specs.Request.{source, target, bus_weight, rider_count, rider_start, rider_node, rider_weight};
 ghost use Rattle.records.specs.Inner.{Is};
 
+pub use crate::accepted::{Job, Network};
 use rules::inner::{link_start, rider_start};
 
 // The byte at i.

@@ -1,6 +1,7 @@
 // Readers of the two records of the rules. Every slice, of any length and content, gets its value or its refusal.
 #![tactic(auto)]
 
+mod accepted;
 pub mod inner;
 mod input;
 mod network;
