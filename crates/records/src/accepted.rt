@@ -1,13 +1,16 @@
 // Records that the readers accept, as values: what is known of one goes with it.
-ghost use Rattle.std.specs.Prelude.{◌+◌, ◌<◌};
+ghost use Rattle.std.specs.Prelude.{◌+◌, ◌<◌, ◌≡◌, IfOk};
+ghost use Rattle.rules.specs.Checks.{first_of};
 ghost use Rattle.rules.specs.Limits.{most_nodes, most_links};
-ghost use Rattle.rules.specs.Network.{SoundNetwork, node_count, link_count, from, to, drive, walk};
-ghost use Rattle.rules.specs.Request.{SoundValue};
-ghost use Rattle.records.specs.Accepted.{Accepted};
+ghost use Rattle.rules.specs.Network.{SoundNetwork, node_count, link_count, from, to, drive, walk, network_verdict};
+ghost use Rattle.rules.specs.Request.{SoundValue, request_checks, request_value};
+ghost use Rattle.records.specs.Accepted.{Accepted, AcceptedPair, verdict_of};
 ghost use Rattle.records.specs.Inner.{Is};
 
 use crate::inner;
-use rules::Request;
+use crate::network::network_verdict;
+use crate::request::{own_verdict, request_value};
+use rules::{Refusal, Request, Verdict};
 use std::marker::Model;
 
 // A network record.
@@ -24,6 +27,28 @@ impl<'a> Model for Network<'a> {
 }
 
 impl<'a> Network<'a> {
+    // The network whose record the bytes are, or the reader's refusal.
+    pub fn read(bytes: &'a [u8]) -> Result<Self, Refusal>
+        ensures verdict { verdict_of result ≡ network_verdict bytes.now }
+        ensures value { IfOk result (λ network. network.bytes ≡ bytes.now) }
+    {
+        match network_verdict(bytes) {
+            Verdict::Accepted => Ok(Network { bytes }),
+            Verdict::Refused(r) => Err(r),
+        }
+    }
+
+    // The value of a request for it, or the reader's refusal.
+    pub fn read_request(&self, request: &[u8]) -> Result<Request, Refusal>
+        ensures verdict { verdict_of result ≡ first_of (request_checks (node_count self.now.bytes) request.now) }
+        ensures value { IfOk result (λ q. (q ≡ request_value request.now) × SoundValue (node_count self.now.bytes) q) }
+    {
+        match own_verdict(request, self.node_count()) {
+            Verdict::Accepted => Ok(request_value(request)),
+            Verdict::Refused(r) => Err(r),
+        }
+    }
+
     // How many nodes it has.
     pub fn node_count(&self) -> usize
         ensures { Is (node_count self.now.bytes) (most_nodes + 1) result }
@@ -74,7 +99,13 @@ impl<'a> Network<'a> {
 // A job for the bus: a network, and a request for it.
 #[derive(Drop)]
 pub struct Job<'a> {
-    pub network: Network<'a>,
+    pub network: &'a Network<'a>,
     pub request: Request,
-    ghost fits: { SoundValue (node_count network.bytes) request },
+    ghost fits: { SoundValue (node_count network.now.bytes) request },
+}
+
+impl<'a> Model for Job<'a> {
+    ghost Value = { AcceptedPair };
+
+    ghost view = { λ s. record { network = s.network.now.bytes; sound = s.network.now.sound; request = s.request; fits = s.fits } };
 }

@@ -45,7 +45,7 @@ fn no_request() -> Request
 }
 
 // The value of a request that is as long as its rider count asks.
-fn request_value(request: &[u8]) -> Request
+pub fn request_value(request: &[u8]) -> Request
     requires { (rider_count request.now ≤ most_riders)
         × (rider_start (rider_count request.now) ≤ length request.now) }
     ensures { result ≡ request_value request.now }
@@ -81,7 +81,7 @@ fn request_verdict(network: &[u8], request: &[u8]) -> Verdict
 }
 
 // Refusals 11 to 17 (4.3), for a network of n nodes.
-fn own_verdict(request: &[u8], n: usize) -> Verdict
+pub fn own_verdict(request: &[u8], n: usize) -> Verdict
     ensures { result ≡ first_of (request_checks n request.now) }
 {
     let opening = opening_verdict(request, 11, 1, 2);
