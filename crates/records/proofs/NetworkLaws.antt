@@ -7,12 +7,11 @@ use mathlib.Core.List.{List}
 use lib.ListN.{length}
 use Rattle.std.specs.Borrow.{Bor}
 use borrow.Rule.Slice.PartAt.{sl_partˢ}
-use Rattle.rules.specs.Checks.{beside}
+use Rattle.rules.specs.Checks.{beside, Verdict, Accepted}
 use Rattle.rules.specs.Network.{node_count, link_count, link_start, network_verdict, network_of, SoundNetwork, Part}
 use Rattle.rules.specs.declared.NetworkRead.{NetworkRead}
-use Rattle.rules.specs.declared.Verdict.{Verdict}
-use Rattle.rules.specs.declared.Verdict.TheVariants.{Accepted, Refused}
 use Rattle.rules.proofs.SoundNetworkLaws.{network_sound}
+use Rattle.std.specs.Prelude.{Ok, Err}
 
 -- a link number below the m that was read is one of a sound record
 pub known_link : (s : List ℕ) (k : ℕ) → k < (network_of s).m → SoundNetwork s × (k < link_count s)
@@ -20,8 +19,8 @@ unfolding network_of
 known_link s k = go (network_verdict s) refl
   where
     go : (v : Verdict) → network_verdict s ≡ v → k < beside v (link_count s) 0 → SoundNetwork s × (k < link_count s)
-    go Accepted e h = (network_sound s e, h)
-    go (Refused r) e h = absurd (omega arith)
+    go (Ok _) e h = (network_sound s e, h)
+    go (Err r) e h = absurd (omega arith)
 
 pub link_fits : (s : List ℕ) (k : ℕ) → k < (network_of s).m → link_start k + 8 ≤ length s
 link_fits s k h =

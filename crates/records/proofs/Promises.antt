@@ -6,7 +6,7 @@ use mathlib.Core.Logic.{◌≢◌}
 use mathlib.Core.List.{List, [], ◌∷◌}
 use lib.ListN.{get_or, set}
 use denote.Ref.{Bor}
-use Rattle.rules.specs.Checks.{refuse, first_of, each}
+use Rattle.rules.specs.Checks.{refuse, first_of, each, Accepted}
 use Rattle.rules.specs.Numbers.{number, bytes_of, twos_of}
 use Rattle.rules.specs.Network.{opening_checks, size_checks, network_checks, network_verdict, network_of, LinkPart}
 use Rattle.rules.specs.Request.{count_checks, node_checks, weight_checks, request_checks, request_verdict, seven_places, request_value, no_request, request_of}
@@ -15,8 +15,9 @@ use Rattle.rules.specs.Answers.{verdict_outcome}
 use Rattle.rules.specs.Town.{town, request, rider, case_a}
 use Rattle.rules.specs.declared.NetworkRead.{NetworkRead}
 use Rattle.rules.specs.declared.RequestRead.{RequestRead}
-use Rattle.rules.specs.declared.Verdict.TheVariants.{Accepted, Refused}
 use Rattle.rules.proofs.AnswerLaws.{part_unique, refuses_same}
+use Rattle.rules.specs.declared.refusal.Fault.TheVariants.{LinkNode, RequestNode, RequestWeight}
+use Rattle.std.specs.Prelude.{Err}
 
 -- ---- any two results agree
 pub network_settled : (s : List ℕ) (a b : NetworkRead) → a ≡ network_of s → b ≡ network_of s → a ≡ b
@@ -54,16 +55,16 @@ request_read = refl
 abbrev pub bad_town : List ℕ
 bad_town = set (set town 20 9) 36 9
 
-bad_town_read : network_of bad_town ≡ record { verdict = Refused (refuse 6 1); n = 0; m = 0 }
+bad_town_read : network_of bad_town ≡ record { verdict = Err (refuse LinkNode 1); n = 0; m = 0 }
 unfolding network_of network_verdict network_checks opening_checks size_checks number first_of each bytes_of twos_of
 bad_town_read = refl
 
-pub not_the_highest_link : record { verdict = Refused (refuse 6 3); n = 0; m = 0 } ≡ network_of bad_town → ⊥
+pub not_the_highest_link : record { verdict = Err (refuse LinkNode 3); n = 0; m = 0 } ≡ network_of bad_town → ⊥
 not_the_highest_link e =
     let place : ◌≡◌ {A = ℕ} 3 1 = (refuses_same (ap (λ (r : NetworkRead). verdict_outcome r.verdict) (e ∙ bad_town_read))).1 in
     omega arith
 
-pub not_with_its_sizes : record { verdict = Refused (refuse 6 1); n = 5; m = 8 } ≡ network_of bad_town → ⊥
+pub not_with_its_sizes : record { verdict = Err (refuse LinkNode 1); n = 5; m = 8 } ≡ network_of bad_town → ⊥
 not_with_its_sizes e =
     let nodes : ◌≡◌ {A = ℕ} 5 0 = ap (λ (r : NetworkRead). r.n) (e ∙ bad_town_read) in
     omega arith
@@ -72,12 +73,12 @@ not_with_its_sizes e =
 abbrev pub bad_request : List ℕ
 bad_request = request 0 3 101 (rider 9 1)
 
-bad_request_read : request_of town bad_request ≡ record { verdict = Refused (refuse 16 2); request = no_request }
+bad_request_read : request_of town bad_request ≡ record { verdict = Err (refuse RequestNode 2); request = no_request }
 unfolding network_checks opening_checks size_checks number first_of each
     request_of request_verdict request_checks count_checks node_checks weight_checks no_request seven_places bytes_of twos_of riders_from
 bad_request_read = refl
 
-pub not_the_weight_first : record { verdict = Refused (refuse 17 0); request = no_request } ≡ request_of town bad_request → ⊥
+pub not_the_weight_first : record { verdict = Err (refuse RequestWeight 0); request = no_request } ≡ request_of town bad_request → ⊥
 not_the_weight_first e =
     let number : ◌≡◌ {A = ℕ} 17 16 = (refuses_same (ap (λ (r : RequestRead). verdict_outcome r.verdict) (e ∙ bad_request_read))).0 in
     omega arith

@@ -3,13 +3,12 @@ use Prim.Native.Nat.{ℕ, ◌≤◌}
 use native.Mathlib.Omega.{arith}
 use mathlib.Core.Path.{◌≡◌, refl, sym, ◌∙◌}
 use mathlib.Core.List.{List}
-use Rattle.rules.specs.Checks.{beside}
+use Rattle.rules.specs.Checks.{beside, Verdict, Accepted}
 use Rattle.rules.specs.Limits.{most_riders}
 use Rattle.rules.specs.Request.{request_verdict, request_value, no_request, request_of, rider_count_of}
 use Rattle.rules.specs.declared.RequestRead.{RequestRead}
-use Rattle.rules.specs.declared.Verdict.{Verdict}
-use Rattle.rules.specs.declared.Verdict.TheVariants.{Accepted, Refused}
 use Rattle.rules.proofs.SoundRequestLaws.{records_sound}
+use Rattle.std.specs.Prelude.{Ok, Err}
 
 -- what a read request says: its verdict, and beside an accepted one its value
 module _ (network s : List ℕ) {r : RequestRead} (is : r ≡ request_of network s) where
@@ -31,5 +30,5 @@ unfolding request_of request_value no_request
 few_riders network s = go (request_verdict network s) refl
   where
     go : (v : Verdict) → request_verdict network s ≡ v → rider_count_of (beside v (request_value s) no_request) ≤ most_riders
-    go Accepted e = (records_sound network s e).1.riders
-    go (Refused r) e = omega arith
+    go (Ok _) e = (records_sound network s e).1.riders
+    go (Err r) e = omega arith

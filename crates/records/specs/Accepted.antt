@@ -3,9 +3,8 @@ use Rattle.std.specs.Prelude.{ℕ, List, Result, Ok, Err}
 use Rattle.rules.specs.Network.{SoundNetwork, node_count}
 use Rattle.rules.specs.Request.{SoundValue}
 use Rattle.rules.specs.declared.Request.{Request}
-use Rattle.rules.specs.declared.Refusal.{Refusal}
-use Rattle.rules.specs.declared.Verdict.{Verdict}
-use Rattle.rules.specs.declared.Verdict.TheVariants.{Accepted as Passes, Refused}
+use Rattle.rules.specs.declared.refusal.Refusal.{Refusal}
+use Rattle.rules.specs.Checks.{Verdict}
 
 -- A network record, and that it is sound.
 pub record Accepted : Type 0 where
@@ -21,5 +20,5 @@ pub record AcceptedPair : Type 0 where
 
 -- the verdict of what reads a record
 abbrev pub verdict_of : {A : Type 0} → Result A Refusal → Verdict
-verdict_of (Ok value) = Passes
-verdict_of (Err r) = Refused r
+verdict_of (Ok value) = Ok tt
+verdict_of (Err r) = Err r

@@ -10,7 +10,7 @@ ghost use Rattle.records.specs.Inner.{Is};
 use crate::inner;
 use crate::network::network_verdict;
 use crate::request::{own_verdict, request_value};
-use rules::{Refusal, Request, Verdict};
+use rules::{Refusal, Request};
 use std::marker::Model;
 
 // A network record.
@@ -32,10 +32,8 @@ impl<'a> Network<'a> {
         ensures verdict { verdict_of result ≡ network_verdict bytes.now }
         ensures value { IfOk result (λ network. network.bytes ≡ bytes.now) }
     {
-        match network_verdict(bytes) {
-            Verdict::Accepted => Ok(Network { bytes }),
-            Verdict::Refused(r) => Err(r),
-        }
+        network_verdict(bytes)?;
+        Ok(Network { bytes })
     }
 
     // The value of a request for it, or the reader's refusal.
@@ -43,10 +41,8 @@ impl<'a> Network<'a> {
         ensures verdict { verdict_of result ≡ first_of (request_checks (node_count self.now.bytes) request.now) }
         ensures value { IfOk result (λ q. (q ≡ request_value request.now) × SoundValue (node_count self.now.bytes) q) }
     {
-        match own_verdict(request, self.node_count()) {
-            Verdict::Accepted => Ok(request_value(request)),
-            Verdict::Refused(r) => Err(r),
-        }
+        own_verdict(request, self.node_count())?;
+        Ok(request_value(request))
     }
 
     // How many nodes it has.

@@ -22,10 +22,8 @@ pub fn number(s: &[u8], i: usize, size: usize) -> usize
     ensures { result ≡ Numbers.number size s.now i }
 {
     let mut x = 0;
-    let mut k = 0;
-    while k < size {
+    for k in 0..size {
         x = 256 * x + byte(s, i + k);
-        k += 1;
     }
     x
 }

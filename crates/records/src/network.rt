@@ -3,28 +3,29 @@ ghost use Rattle.std.specs.Prelude.{◌≤◌, ◌≡◌, length};
 ghost use Rattle.rules.specs.Checks.{first_of, each};
 ghost use Rattle.rules.specs.Network.{link_count, link_start, size_checks, link_checks, network_verdict, network_of, LinkPart};
 
+use crate::accepted::Network;
 use crate::inner;
 use crate::opening::opening_verdict;
-use rules::checks::{checked, either, outside};
+use rules::checks::{check, outside};
 use rules::inner::link_start;
-use rules::{MOST_LINKS, MOST_NODES, NetworkRead, Verdict};
+use rules::{Fault, MOST_LINKS, MOST_NODES, NETWORK_OPENING, NetworkRead, Refusal};
 
 // Reads a network record: n and m, or its refusal with both 0 beside it (1.8).
+#[tactic(auto, unfolding(rules::specs::Network::network_of))]
 pub fn read_network(network: &[u8]) -> NetworkRead
     ensures { result ≡ network_of network.now }
 {
-    let verdict = network_verdict(network);
-    let Verdict::Accepted = verdict else {
-        return NetworkRead {
-            verdict,
+    match Network::read(network) {
+        Ok(read) => NetworkRead {
+            verdict: Ok(()),
+            n: read.node_count(),
+            m: read.link_count(),
+        },
+        Err(refusal) => NetworkRead {
+            verdict: Err(refusal),
             n: 0,
             m: 0,
-        };
-    };
-    NetworkRead {
-        verdict,
-        n: inner::node_count(network),
-        m: inner::link_count(network),
+        },
     }
 }
 
@@ -43,44 +44,39 @@ pub fn link(network: &[u8], k: usize) -> &[u8]
 }
 
 // Refusals 1 to 6 (4.2).
-pub fn network_verdict(network: &[u8]) -> Verdict
+#[tactic(auto, using(rules::proofs::Order::in_order), unfolding(rules::specs::Network::network_verdict, rules::specs::Network::network_checks))]
+pub fn network_verdict(network: &[u8]) -> Result<(), Refusal>
     ensures { result ≡ network_verdict network.now }
 {
-    let opening = opening_verdict(network, 1, 1, 4);
-    let Verdict::Accepted = opening else {
-        return opening;
-    };
-    let sizes = sizes_verdict(network);
-    let Verdict::Accepted = sizes else {
-        return sizes;
-    };
+    opening_verdict(network, NETWORK_OPENING)?;
+    sizes_verdict(network)?;
     links_verdict(network)
 }
 
 // Refusals 4 and 5.
-fn sizes_verdict(network: &[u8]) -> Verdict
+#[tactic(auto, unfolding(rules::specs::Checks::first_of, rules::specs::Network::size_checks))]
+fn sizes_verdict(network: &[u8]) -> Result<(), Refusal>
     requires { 9 ≤ length network.now }
     ensures { result ≡ first_of (size_checks network.now) }
 {
     let n = inner::node_count(network);
     let m = inner::link_count(network);
-    let sizes = either(outside(1, MOST_NODES, n), outside(0, MOST_LINKS, m));
+    let sizes = outside(1, MOST_NODES, n) || outside(0, MOST_LINKS, m);
     let parts = network.len() != link_start(m);
-    checked(sizes, 4, 0, checked(parts, 5, 0, Verdict::Accepted))
+    check(sizes, Fault::NetworkLimits, 0)?;
+    check(parts, Fault::NetworkParts, 0)
 }
 
-// Refusal 6 at the lowest link that names a node of n or more, found from the last link on.
-fn links_verdict(network: &[u8]) -> Verdict
+// Refusal 6 at the lowest link that names a node of n or more.
+#[tactic(auto, using(rules::proofs::Order::passed_more, rules::proofs::Order::passed_all), unfolding(rules::specs::Checks::first_of))]
+fn links_verdict(network: &[u8]) -> Result<(), Refusal>
     requires { link_start (link_count network.now) ≤ length network.now }
     ensures { result ≡ first_of (each (link_checks network.now) (link_count network.now) 0) }
 {
     let n = inner::node_count(network);
-    let mut k = inner::link_count(network);
-    let mut verdict = Verdict::Accepted;
-    while 0 < k {
-        k -= 1;
-        let beyond = either(n <= inner::from(network, k), n <= inner::to(network, k));
-        verdict = checked(beyond, 6, k, verdict);
+    for k in 0..inner::link_count(network) {
+        let beyond = n <= inner::from(network, k) || n <= inner::to(network, k);
+        check(beyond, Fault::LinkNode, k)?;
     }
-    verdict
+    Ok(())
 }

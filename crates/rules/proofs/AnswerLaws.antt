@@ -5,25 +5,21 @@ use mathlib.Core.List.{List}
 use native.Mathlib.Omega.{arith}
 use denote.Ref.{Bor}
 use Rattle.rules.specs.Network.{Part}
-use Rattle.rules.specs.Answers.{Outcome, refuses, verdict_outcome, priced_outcome, planned_outcome, Walking, Walked, Pricing, refused, stranded}
+use Rattle.rules.specs.Answers.{Outcome, refuses, verdict_outcome, number_outcome, planned_outcome, Walking, Walked, Pricing, refused, stranded}
 use Rattle.rules.specs.Answers.{priced, PricedRoute, Tablet, tablet_number, Searching, hopeless, planned, Searched}
-use Rattle.rules.specs.declared.Refusal.{Refusal}
+use Rattle.rules.specs.declared.refusal.Refusal.{Refusal}
+use Rattle.rules.specs.declared.Plan.{Plan}
+use Rattle.rules.proofs.FaultLaws.{fault_told_apart}
 use Rattle.rules.specs.declared.Request.{Request}
-use Rattle.rules.specs.declared.Verdict.{Verdict}
-use Rattle.rules.specs.declared.Verdict.TheVariants.{Accepted, Refused as NotAccepted}
-use Rattle.rules.specs.declared.Priced.{Priced}
-use Rattle.rules.specs.declared.Priced.TheVariants.{Price as Costs, Refused as NotPriced}
-use Rattle.rules.specs.declared.Planned.{Planned}
-use Rattle.rules.specs.declared.Planned.TheVariants.{Plan as Found, Refused as NotPlanned}
 use Rattle.rules.proofs.WalkLaws.{holds_distance_unique}
 use Rattle.rules.proofs.RiderLaws.{meeting_reaches}
 use Rattle.rules.proofs.PriceLaws.{price_unique}
 use Rattle.rules.proofs.PlanLaws.{right_plan_unique}
 use Rattle.rules.proofs.RoomLaws.{kept_unique, distances_unique, table_unique, lent_same}
 use Rattle.rules.specs.Rooms.{Lent}
-use Rattle.rules.specs.Writing.{recorded_outcome, Writing}
-use Rattle.rules.specs.declared.Recorded.{Recorded}
-use Rattle.rules.specs.declared.Recorded.TheVariants.{Length, Refused as NotRecorded}
+use Rattle.rules.specs.Writing.{Writing}
+use Rattle.rules.specs.Checks.{number_of, Verdict}
+use Rattle.std.specs.Prelude.{Result, Ok, Err}
 
 -- A link's part of the network record is one place in memory with one content.
 pub part_unique : {whole a b : Bor (List ℕ)} {start size : ℕ} → Part whole start size a → Part whole start size b
@@ -38,38 +34,35 @@ pub refuses_same : {number other place elsewhere : ℕ} → refuses number place
 refuses_same e = (cc, cc)
 
 -- What an answer is in the rules' terms tells which answer it is.
-refusal_same : {r s : Refusal} → r.number ≡ s.number → r.place ≡ s.place → r ≡ s
-refusal_same e f = λ i. record { number = e i; place = f i }
+refusal_same : {r s : Refusal} → number_of r.fault ≡ number_of s.fault → r.place ≡ s.place → r ≡ s
+refusal_same {r} {s} e f = let same : r.fault ≡ s.fault = fault_told_apart r.fault s.fault e in λ i. record { fault = same i; place = f i }
 
 pub verdict_told_apart : (x y : Verdict) → verdict_outcome x ≡ verdict_outcome y → x ≡ y
-verdict_told_apart Accepted Accepted e = refl
-verdict_told_apart Accepted (NotAccepted s) e = cc
-verdict_told_apart (NotAccepted r) Accepted e = cc
-verdict_told_apart (NotAccepted r) (NotAccepted s) e = ap NotAccepted (refusal_same (cc) (cc))
+verdict_told_apart (Ok _) (Ok _) e = refl
+verdict_told_apart (Ok _) (Err s) e = cc
+verdict_told_apart (Err r) (Ok _) e = cc
+verdict_told_apart (Err r) (Err s) e = ap Err (refusal_same (cc) (cc))
 
-pub priced_told_apart : (x y : Priced) → priced_outcome x ≡ priced_outcome y → x ≡ y
-priced_told_apart (Costs p) (Costs q) e = cc
-priced_told_apart (Costs p) (NotPriced s) e = cc
-priced_told_apart (NotPriced r) (Costs q) e = cc
-priced_told_apart (NotPriced r) (NotPriced s) e = ap NotPriced (refusal_same (cc) (cc))
+pub number_told_apart : (x y : Result ℕ Refusal) → number_outcome x ≡ number_outcome y → x ≡ y
+number_told_apart (Ok p) (Ok q) e = cc
+number_told_apart (Ok p) (Err s) e = cc
+number_told_apart (Err r) (Ok q) e = cc
+number_told_apart (Err r) (Err s) e = ap Err (refusal_same (cc) (cc))
 
-pub planned_told_apart : (x y : Planned) → planned_outcome x ≡ planned_outcome y → x ≡ y
-planned_told_apart (Found c n) (Found d m) e = cc
-planned_told_apart (Found c n) (NotPlanned s) e = cc
-planned_told_apart (NotPlanned r) (Found d m) e = cc
-planned_told_apart (NotPlanned r) (NotPlanned s) e = ap NotPlanned (refusal_same (cc) (cc))
-
-pub recorded_told_apart : (x y : Recorded) → recorded_outcome x ≡ recorded_outcome y → x ≡ y
-recorded_told_apart (Length m) (Length n) e = cc
-recorded_told_apart (Length m) (NotRecorded s) e = cc
-recorded_told_apart (NotRecorded r) (Length n) e = cc
-recorded_told_apart (NotRecorded r) (NotRecorded s) e = ap NotRecorded (refusal_same (cc) (cc))
+pub planned_told_apart : (x y : Result Plan Refusal) → planned_outcome x ≡ planned_outcome y → x ≡ y
+planned_told_apart (Ok p) (Ok q) e =
+    let cost : p.cost ≡ q.cost = cc in
+    let count : p.count ≡ q.count = cc in
+    ap Ok (λ i. record { cost = cost i; count = count i })
+planned_told_apart (Ok p) (Err s) e = cc
+planned_told_apart (Err r) (Ok q) e = cc
+planned_told_apart (Err r) (Err s) e = ap Err (refusal_same (cc) (cc))
 
 -- The walking entry has one answer and leaves one content.
 walking_unique : (verdict : Verdict) {network : List ℕ} {start : ℕ} {before a b : List ℕ} {x y : Outcome}
     → Walking verdict network start before a x → Walking verdict network start before b y → (a ≡ b) × (x ≡ y)
-walking_unique Accepted w z = (kept_unique w.kept z.kept (λ v h. holds_distance_unique (w.fills refl v h) (z.fills refl v h)), cc)
-walking_unique (NotAccepted r) w z = (kept_unique w.kept z.kept (λ v h. absurd (omega arith)), cc)
+walking_unique (Ok _) w z = (kept_unique w.kept z.kept (λ v h. holds_distance_unique (w.fills refl v h) (z.fills refl v h)), cc)
+walking_unique (Err r) w z = (kept_unique w.kept z.kept (λ v h. absurd (omega arith)), cc)
 
 pub walked_unique : {network : List ℕ} {start : ℕ} {before a b : List ℕ} {x y : Outcome} → Walked network start before a x
     → Walked network start before b y → (a ≡ b) × (x ≡ y)
@@ -132,13 +125,13 @@ pub walk_settled : {network : List ℕ} {start : ℕ} {before a b : List ℕ} {x
     → (a ≡ b) × (x ≡ y)
 walk_settled {x = x} {y} w z = let (room, answer) = walked_unique w z in (room, verdict_told_apart x y answer)
 
-pub price_settled : {network request route before a b : List ℕ} {x y : Priced}
-    → PricedRoute network request route before a (priced_outcome x)
-    → PricedRoute network request route before b (priced_outcome y)
+pub price_settled : {network request route before a b : List ℕ} {x y : Result ℕ Refusal}
+    → PricedRoute network request route before a (number_outcome x)
+    → PricedRoute network request route before b (number_outcome y)
     → (a ≡ b) × (x ≡ y)
-price_settled {x = x} {y} p r = let (room, answer) = priced_route_unique p r in (room, priced_told_apart x y answer)
+price_settled {x = x} {y} p r = let (room, answer) = priced_route_unique p r in (room, number_told_apart x y answer)
 
-pub search_settled : {network : List ℕ} (request : List ℕ) {before a b : Lent} {x y : Planned}
+pub search_settled : {network : List ℕ} (request : List ℕ) {before a b : Lent} {x y : Result Plan Refusal}
     → Searched network request before a (planned_outcome x)
     → Searched network request before b (planned_outcome y)
     → (a ≡ b) × (x ≡ y)
@@ -146,8 +139,8 @@ search_settled request {x = x} {y} s t =
     let (rooms, answer) = searched_unique request s t in
     (rooms, planned_told_apart x y answer)
 
-pub write_settled : {verdict : Verdict} {bytes before a b : List ℕ} {x y : Recorded}
-    → Writing verdict bytes before a (recorded_outcome x)
-    → Writing verdict bytes before b (recorded_outcome y)
+pub write_settled : {verdict : Verdict} {bytes before a b : List ℕ} {x y : Result ℕ Refusal}
+    → Writing verdict bytes before a (number_outcome x)
+    → Writing verdict bytes before b (number_outcome y)
     → (a ≡ b) × (x ≡ y)
-write_settled {x = x} {y} w z = let (room, answer) = writing_unique w z in (room, recorded_told_apart x y answer)
+write_settled {x = x} {y} w z = let (room, answer) = writing_unique w z in (room, number_told_apart x y answer)

@@ -4,9 +4,7 @@ use native.Mathlib.Omega.{arith}
 use native.Mathlib.Nat.{sub-zero}
 use mathlib.Core.Path.{◌≡◌}
 use mathlib.Core.List.{List, ◌++◌}
-use Rattle.rules.specs.Checks.{Check, first_of, each}
-use Rattle.rules.specs.declared.Verdict.{Verdict}
-use Rattle.rules.specs.declared.Verdict.TheVariants.{Accepted}
+use Rattle.rules.specs.Checks.{Check, first_of, each, Verdict, Accepted}
 
 -- Of `count` things, those from number k on get this verdict.
 pub record Judged (checks : ℕ → List Check) (count k : ℕ) (verdict : Verdict) : Type 0 where

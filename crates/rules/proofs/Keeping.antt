@@ -5,16 +5,16 @@ use mathlib.Core.Logic.{◌≢◌}
 use mathlib.Core.List.{List, []}
 use Rattle.rules.specs.Answers.{Walking, Walked, Pricing, refused, stranded, priced, refuses, PricedRoute, Searching, hopeless, planned}
 use Rattle.rules.specs.declared.Request.{Request}
-use Rattle.rules.specs.declared.Verdict.{Verdict}
-use Rattle.rules.specs.declared.Verdict.TheVariants.{Accepted, Refused as NotAccepted}
 use Rattle.rules.specs.Rooms.{Lent}
 use Rattle.rules.specs.Writing.{Writing}
+use Rattle.rules.specs.Checks.{Verdict}
+use Rattle.std.specs.Prelude.{Ok, Err}
 
 module _ {number place : ℕ} where
   walking_keeps : (verdict : Verdict) {network : List ℕ} {start : ℕ} {before after : List ℕ}
       → Walking verdict network start before after (refuses number place) → after ≡ before
-  walking_keeps Accepted w = let z = w.answers in cc
-  walking_keeps (NotAccepted r) w = w.kept.later
+  walking_keeps (Ok _) w = let z = w.answers in cc
+  walking_keeps (Err r) w = w.kept.later
 
   pub walk_keeps : {network : List ℕ} {start : ℕ} {before after : List ℕ} → Walked network start before after (refuses number place)
       → after ≡ before
@@ -32,8 +32,8 @@ module _ {number place : ℕ} where
 
   pub write_keeps : (verdict : Verdict) {bytes before after : List ℕ} → Writing verdict bytes before after (refuses number place)
       → after ≡ before
-  write_keeps Accepted w = let z = w.answers in cc
-  write_keeps (NotAccepted r) w = w.written
+  write_keeps (Ok _) w = let z = w.answers in cc
+  write_keeps (Err r) w = w.written
 
   -- Every refusal of the search but 24 keeps all three rooms, and 24 the steps.
   pub search_keeps : {verdict : Verdict} {network : List ℕ} {q : Request} {before after : Lent}

@@ -1,6 +1,7 @@
 -- Laws of the definitions: how checks run in their order, what acceptance gives, how large refusals are, that a promise has one
 -- result at most, that a refusal keeps the rooms, and that records are read as they were written.
 pub mod Clash
+pub mod FaultLaws
 pub mod Four
 pub mod Order
 pub mod JudgingLaws

@@ -7,13 +7,12 @@ use mathlib.Core.List.{List, [], ◌∷◌, ◌++◌, append-nil}
 use lib.ListN.{length, get_or, take, drop, length-append, drop_of_length-le}
 use lib.Seq.{drop-cons, take_all}
 use borrow.Author.Tests.{ltb-false, leb-false, le-ltb, lt-leb, eq-eqb}
-use Rattle.rules.specs.Checks.{first_of}
+use Rattle.rules.specs.Checks.{first_of, Accepted}
 use Rattle.rules.specs.Limits.{most_nodes, most_links}
 use Rattle.rules.specs.Numbers.{number, two, bytes_of, twos_of, Fit}
 use Rattle.rules.specs.Network.{given_links, version_of, stated_length, node_count, link_count, link_start, from, to, drive, walk, numbers_from, link_numbers}
 use Rattle.rules.specs.Network.{network_head, network_record, SoundNetwork}
 use Rattle.rules.specs.Writing.{link_list_checks, given_link_checks, network_number_checks}
-use Rattle.rules.specs.declared.Verdict.TheVariants.{Accepted}
 use Rattle.rules.proofs.Order.{accepted_head, accepted_front, accepted_rest, accepted_each, front_passed, all_pass}
 use Rattle.rules.proofs.TestLaws.{neither, same, within, not_outside}
 use Rattle.rules.proofs.BytesLaws.{bytes_then, twos_then, twos_at, twos_length, number_behind}

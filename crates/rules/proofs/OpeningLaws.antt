@@ -4,9 +4,9 @@ use mathlib.Core.Path.{◌≡◌}
 use mathlib.Core.List.{List}
 use lib.ListN.{length}
 use borrow.Author.Tests.{ltb-false, le-ltb, eq-eqb}
-use Rattle.rules.specs.Checks.{first_of}
+use Rattle.rules.specs.declared.refusal.Opening.{Opening}
+use Rattle.rules.specs.Checks.{first_of, Accepted}
 use Rattle.rules.specs.Network.{version_of, stated_length, opening_checks}
-use Rattle.rules.specs.declared.Verdict.TheVariants.{Accepted}
 use Rattle.rules.proofs.Order.{accepted_head}
 use Rattle.rules.proofs.TestLaws.{same, within, not_outside}
 
@@ -16,16 +16,16 @@ pub record Opened (latest size : ℕ) (s : List ℕ) : Type 0 where
   pub version : (1 ≤ version_of s) × (version_of s ≤ latest)
   pub stated : stated_length size s ≡ length s
 
-pub opening_accepted : (lowest latest size : ℕ) (s : List ℕ) → first_of (opening_checks lowest latest size s) ≡ Accepted
-    → Opened latest size s
+pub opening_accepted : (opens : Opening) (s : List ℕ) → first_of (opening_checks opens s) ≡ Accepted
+    → Opened opens.latest opens.size s
 unfolding opening_checks
-opening_accepted lowest latest size s e =
+opening_accepted opens s e =
     let (a, e₁) = accepted_head _ _ e in
     let (b, e₂) = accepted_head _ _ e₁ in
     let (c, e₃) = accepted_head _ _ e₂ in
-    record { long = ltb-false _ _ a; version = within 1 latest (version_of s) b; stated = same _ _ c }
+    record { long = ltb-false _ _ a; version = within 1 opens.latest (version_of s) b; stated = same _ _ c }
 
-pub opened_accepts : (lowest latest size : ℕ) (s : List ℕ) → Opened latest size s → first_of (opening_checks lowest latest size s) ≡ Accepted
+pub opened_accepts : (opens : Opening) (s : List ℕ) → Opened opens.latest opens.size s → first_of (opening_checks opens s) ≡ Accepted
 unfolding opening_checks first_of
-opened_accepts lowest latest size s so =
+opened_accepts opens s so =
     simp (le-ltb _ _ so.long, not_outside _ _ _ so.version.0 so.version.1, eq-eqb _ _ so.stated)

@@ -6,64 +6,76 @@ use native.Mathlib.Nat.{sub-zero, add-zero}
 use mathlib.Core.Path.{◌≡◌, refl, sym, ◌∙◌, ap}
 use mathlib.Core.Bool.{Bool, true, false, cond}
 use mathlib.Core.List.{List, [], ◌∷◌, ◌++◌}
-use Rattle.rules.specs.Checks.{Check, check, refuse, first_of, each}
-use Rattle.rules.specs.declared.Refusal.{Refusal}
-use Rattle.rules.specs.declared.Verdict.{Verdict}
-use Rattle.rules.specs.declared.Verdict.TheVariants.{Accepted, Refused}
+use Rattle.rules.specs.Checks.{Check, check, refuse, first_of, each, Verdict, Accepted}
+use Rattle.rules.specs.declared.refusal.Fault.{Fault}
+use Rattle.rules.specs.declared.refusal.Refusal.{Refusal}
 use Rattle.rules.proofs.Clash.{clash}
+use Rattle.std.specs.Prelude.{Ok, Err}
 
-pub given : (number place : ℕ) {applies : Bool} (rest : List Check) → applies ≡ true
-    → first_of (check number place applies ∷ rest) ≡ Refused (refuse number place)
+pub given : (fault : Fault) (place : ℕ) {applies : Bool} (rest : List Check) → applies ≡ true
+    → first_of (check fault place applies ∷ rest) ≡ Err (refuse fault place)
 unfolding first_of
-given number place rest e = rw e
+given fault place rest e = rw e
 
-pub passed : (number place : ℕ) {applies : Bool} (rest : List Check) → applies ≡ false
-    → first_of (check number place applies ∷ rest) ≡ first_of rest
+pub passed : (fault : Fault) (place : ℕ) {applies : Bool} (rest : List Check) → applies ≡ false
+    → first_of (check fault place applies ∷ rest) ≡ first_of rest
 unfolding first_of
-passed number place rest e = rw e
+passed fault place rest e = rw e
 
 -- one check more in front of a front that ends in x
 behind : (b : Bool) (r : Refusal) {front whole x : Verdict}
-    → cond b (Refused r) front ≡ x
+    → cond b (Err r) front ≡ x
     → (front ≡ x → whole ≡ x)
-    → cond b (Refused r) whole ≡ x
+    → cond b (Err r) whole ≡ x
 behind true r e f = e
 behind false r e f = f e
 
 before : (b : Bool) (r : Refusal) {front whole rest : Verdict}
-    → cond b (Refused r) front ≡ Accepted
+    → cond b (Err r) front ≡ Accepted
     → (front ≡ Accepted → whole ≡ rest)
-    → cond b (Refused r) whole ≡ rest
+    → cond b (Err r) whole ≡ rest
 before true r e f = clash (cc)
 before false r e f = f e
 
 -- a refusal of the front is the refusal of the whole
-pub front_refused : (front rest : List Check) (r : Refusal) → first_of front ≡ Refused r → first_of (front ++ rest) ≡ Refused r
+pub front_refused : (front rest : List Check) (r : Refusal) → first_of front ≡ Err r → first_of (front ++ rest) ≡ Err r
 unfolding first_of
 front_refused [] rest r e = clash (cc)
-front_refused (c ∷ front) rest r e = behind c.applies (refuse c.number c.place) e (front_refused front rest r)
+front_refused (c ∷ front) rest r e = behind c.applies (refuse c.fault c.place) e (front_refused front rest r)
 
 -- an accepted front leaves the whole to the rest
 pub front_passed : (front rest : List Check) → first_of front ≡ Accepted → first_of (front ++ rest) ≡ first_of rest
 unfolding first_of
 front_passed [] rest e = refl
-front_passed (c ∷ front) rest e = before c.applies (refuse c.number c.place) e (front_passed front rest)
+front_passed (c ∷ front) rest e = before c.applies (refuse c.fault c.place) e (front_passed front rest)
+
+-- a verdict, and where it accepts, the next
+abbrev pub then : Verdict → Verdict → Verdict
+then (Ok _) next = next
+then (Err r) next = Err r
+
+pub in_order : (front rest : List Check) → first_of (front ++ rest) ≡ then (first_of front) (first_of rest)
+in_order front rest = go (first_of front) refl
+  where
+    go : (v : Verdict) → first_of front ≡ v → first_of (front ++ rest) ≡ then v (first_of rest)
+    go (Ok _) e = front_passed front rest e
+    go (Err r) e = front_refused front rest r e
 
 -- A verdict v on the front alone: a refusal is the verdict on the whole, and acceptance leaves the whole to the rest.
-pub stops : (front rest : List Check) {v : Verdict} (r : Refusal) → v ≡ first_of front → v ≡ Refused r → v ≡ first_of (front ++ rest)
+pub stops : (front rest : List Check) {v : Verdict} (r : Refusal) → v ≡ first_of front → v ≡ Err r → v ≡ first_of (front ++ rest)
 stops front rest r is told = told ∙ sym (front_refused front rest r (sym is ∙ told))
 
 pub goes_on : (front rest : List Check) {v : Verdict} → v ≡ first_of front → v ≡ Accepted → first_of rest ≡ first_of (front ++ rest)
 goes_on front rest is told = sym (front_passed front rest (sym is ∙ told))
 
 -- Accepted means that none applies: not the first, and none of the rest.
-none_applies : (b : Bool) (r : Refusal) {rest : Verdict} → cond b (Refused r) rest ≡ Accepted → (b ≡ false) × (rest ≡ Accepted)
+none_applies : (b : Bool) (r : Refusal) {rest : Verdict} → cond b (Err r) rest ≡ Accepted → (b ≡ false) × (rest ≡ Accepted)
 none_applies true r e = clash (cc)
 none_applies false r e = (refl, e)
 
 pub accepted_head : (c : Check) (rest : List Check) → first_of (c ∷ rest) ≡ Accepted → (c.applies ≡ false) × (first_of rest ≡ Accepted)
 unfolding first_of
-accepted_head c rest e = none_applies c.applies (refuse c.number c.place) e
+accepted_head c rest e = none_applies c.applies (refuse c.fault c.place) e
 
 pub accepted_front : (front rest : List Check) → first_of (front ++ rest) ≡ Accepted → first_of front ≡ Accepted
 unfolding first_of
@@ -122,11 +134,11 @@ module _ (checks : ℕ → List Check) (count : ℕ) where
               ∙ so.left;
         }
 
-    pub passed_until : (r : Refusal) → k < count → first_of (checks k) ≡ Refused r → first_of (each checks count 0) ≡ Refused r
-    passed_until r h e =
+    pub passed_here : k < count → first_of (each checks count 0) ≡ then (first_of (checks k)) (first_of (each checks (count - (k + 1)) (k + 1)))
+    passed_here h =
         sym so.left
         ∙ ap first_of (each_from checks count k h)
-        ∙ front_refused (checks k) (each checks (count - (k + 1)) (k + 1)) r e
+        ∙ in_order (checks k) (each checks (count - (k + 1)) (k + 1))
 
     pub passed_all : count ≤ k → first_of (each checks count 0) ≡ Accepted
     unfolding each first_of

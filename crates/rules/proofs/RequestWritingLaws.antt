@@ -9,7 +9,7 @@ use mathlib.Core.List.{List, [], ◌++◌, append-nil, append_assoc}
 use lib.ListN.{length, get_or, take, length-append}
 use lib.Seq.{take_all, ext_get_or, get_or-append-add}
 use borrow.Author.Tests.{ltb-false, leb-false, le-ltb, lt-ltb, lt-leb, eq-eqb}
-use Rattle.rules.specs.Checks.{first_of}
+use Rattle.rules.specs.Checks.{first_of, Accepted}
 use Rattle.rules.specs.Limits.{most_nodes, most_riders, most_weight}
 use Rattle.rules.specs.Numbers.{byte, number, two, bytes_of, Fit}
 use Rattle.rules.specs.Network.{version_of, stated_length, node_count, SoundNetwork}
@@ -18,7 +18,6 @@ use Rattle.rules.specs.Request.{bus_weight_of, rider_count_of, rider_node_of, ri
 use Rattle.rules.specs.Request.{SoundRequest, SoundValue, Seven}
 use Rattle.rules.specs.Writing.{place_fault, place_checks, value_checks, given_rider_checks, given_node_checks, request_number_checks}
 use Rattle.rules.specs.declared.Request.{Request}
-use Rattle.rules.specs.declared.Verdict.TheVariants.{Accepted}
 use Rattle.rules.proofs.Order.{accepted_head, accepted_front, accepted_rest, accepted_each, front_passed, all_pass}
 use Rattle.rules.proofs.TestLaws.{neither, same, within, not_outside}
 use Rattle.rules.proofs.SoundRequestLaws.{place_used, place_unused, value_sound}

@@ -8,12 +8,11 @@ use native.Mathlib.Nat.{mul-zero, mod-lt, div-add-mod', div-lt_iff_lt-mul, suc-m
 use lib.ListN.{length, get_or, set, length-set}
 use lib.Seq.{ext_get_or, get_or-drop, get_or-set_same, get_or-set_other, drop-set-lt}
 use borrow.Author.Tests.{le-ltb, ltb-false}
-use Rattle.rules.specs.Checks.{first_of}
+use Rattle.rules.specs.Checks.{first_of, Accepted}
 use Rattle.rules.specs.Request.{rider_count_of}
 use Rattle.rules.specs.Rooms.{Kept, Distances, Table, Lent, Enough}
 use Rattle.rules.specs.Answers.{room_checks}
 use Rattle.rules.specs.declared.Request.{Request}
-use Rattle.rules.specs.declared.Verdict.TheVariants.{Accepted}
 use Rattle.rules.proofs.Order.{accepted_head}
 use Rattle.rules.proofs.RiderLaws.{rider_holds_unique}
 use Rattle.rules.proofs.PlanLaws.{holds_finish_unique}

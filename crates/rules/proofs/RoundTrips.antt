@@ -8,7 +8,7 @@ use mathlib.Core.List.{List, [], ◌∷◌}
 use lib.ListN.{length, take}
 use native.Mathlib.Decide.{ℕ_discrete}
 use borrow.Author.Tests.{eq-eqb, ne_eqb}
-use Rattle.rules.specs.Checks.{first_of}
+use Rattle.rules.specs.Checks.{first_of, Accepted}
 use Rattle.rules.specs.Numbers.{Fit}
 use Rattle.rules.specs.Network.{given_links, node_count, link_start, network_record, network_verdict, network_of}
 use Rattle.rules.specs.Limits.{most_nodes, most_links, most_riders}
@@ -17,8 +17,8 @@ use Rattle.rules.specs.Answers.{Outcome, gives, refuses}
 use Rattle.rules.specs.Writing.{link_list_checks, given_link_checks, network_number_checks, NetworkHas, NetworkWritten}
 use Rattle.rules.specs.Writing.{place_checks, value_checks, given_rider_checks, given_node_checks, request_number_checks, request_write_checks, RequestHas, RequestWritten}
 use Rattle.rules.specs.Writing.{value_numbers, value_of, ValueListWritten}
+use Rattle.rules.specs.declared.refusal.Fault.TheVariants.{GivenNumber}
 use Rattle.rules.specs.declared.Request.{Request}
-use Rattle.rules.specs.declared.Verdict.TheVariants.{Accepted}
 use Rattle.rules.proofs.Clash.{clash}
 use Rattle.rules.proofs.Order.{given, passed}
 use Rattle.rules.proofs.Refusals.{Gives, none_given, append_given, each_given}
@@ -197,11 +197,11 @@ request_size n q {before} {after} {size} so =
 -- ---- a value as one list: of the right length it is the value that is written, and of any other it is refused
 module _ (n : ℕ) (numbers : List ℕ) {before after : List ℕ} {answer : Outcome} (so : ValueListWritten n numbers before after answer) where
   pub list_value : length numbers ≡ value_numbers → RequestWritten n (value_of numbers) before after answer
-  list_value e = rw (passed 81 0 (request_write_checks n (value_of numbers) (length before)) (ap not (eq-eqb _ _ e))) at so
+  list_value e = rw (passed GivenNumber 0 (request_write_checks n (value_of numbers) (length before)) (ap not (eq-eqb _ _ e))) at so
 
   pub list_refused : length numbers ≢ value_numbers → answer ≡ refuses 81 0
   list_refused other =
-      rw (given 81 0 (request_write_checks n (value_of numbers) (length before)) (ap not (ne_eqb (length numbers) value_numbers other))) at so.answers
+      rw (given GivenNumber 0 (request_write_checks n (value_of numbers) (length before)) (ap not (ne_eqb (length numbers) value_numbers other))) at so.answers
 
   pub list_written : {values : List ℕ} → answer ≡ gives values → length numbers ≡ value_numbers
   list_written e = elim (ℕ_discrete (length numbers) value_numbers) [ yes same ↦ same | no other ↦ (let told = list_refused other in clash (cc)) ]

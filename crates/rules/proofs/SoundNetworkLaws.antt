@@ -6,11 +6,10 @@ use mathlib.Core.Path.{◌≡◌, ◌∙◌}
 use mathlib.Core.List.{List}
 use lib.ListN.{length}
 use borrow.Author.Tests.{leb-false, lt-leb, eq-eqb}
-use Rattle.rules.specs.Checks.{first_of, each}
+use Rattle.rules.specs.Checks.{first_of, each, Accepted}
 use Rattle.rules.specs.Limits.{most_nodes, most_links}
-use Rattle.rules.specs.Network.{opening_checks, node_count, link_count, link_start, from, to, size_checks, link_checks, network_checks}
+use Rattle.rules.specs.Network.{opening_checks, node_count, link_count, link_start, from, to, size_checks, link_checks, network_checks, network_opening}
 use Rattle.rules.specs.Network.{network_verdict, SoundNetwork}
-use Rattle.rules.specs.declared.Verdict.TheVariants.{Accepted}
 use Rattle.rules.proofs.Order.{accepted_head, accepted_front, accepted_rest, accepted_each, front_passed, all_pass}
 use Rattle.rules.proofs.TestLaws.{neither, same, within, not_outside}
 use Rattle.rules.proofs.OpeningLaws.{opening_accepted, opened_accepts}
@@ -46,8 +45,8 @@ link_accepted s e k h =
 pub network_sound : (s : List ℕ) → network_verdict s ≡ Accepted → SoundNetwork s
 unfolding network_verdict network_checks
 network_sound s e =
-    let opening = opening_accepted 1 1 4 s (accepted_front _ _ e) in
-    let later = accepted_rest (opening_checks 1 1 4 s) _ e in
+    let opening = opening_accepted network_opening s (accepted_front _ _ e) in
+    let later = accepted_rest (opening_checks network_opening s) _ e in
     let sizes = sizes_accepted s (accepted_front _ _ later) in
     let links = link_accepted s (accepted_rest (size_checks s) _ later) in
     record {
@@ -79,7 +78,7 @@ link_accepts s so k h = simp (lt-leb _ _ (so.starts k h), lt-leb _ _ (so.ends k 
 pub sound_network : (s : List ℕ) → SoundNetwork s → network_verdict s ≡ Accepted
 unfolding network_verdict network_checks
 sound_network s so =
-    front_passed (opening_checks 1 1 4 s) _
-    (opened_accepts 1 1 4 s (record { long = so.long; version = (omega arith, omega arith); stated = so.stated }))
+    front_passed (opening_checks network_opening s) _
+    (opened_accepts network_opening s (record { long = so.long; version = (omega arith, omega arith); stated = so.stated }))
     ∙ front_passed (size_checks s) _ (sizes_accept s so)
     ∙ all_pass (link_checks s) (link_count s) 0 (λ k h. rw zero-add (link_accepts s so k h))

@@ -8,13 +8,12 @@ use mathlib.Core.List.{List}
 use lib.ListN.{length, get_or, set}
 use lib.Dec.{ltb}
 use borrow.Author.Tests.{ltb-false, leb-false, le-ltb, lt-ltb, lt-leb, eq-eqb}
-use Rattle.rules.specs.Checks.{first_of}
+use Rattle.rules.specs.Checks.{first_of, Accepted}
 use Rattle.rules.specs.Limits.{most_riders, most_weight}
 use Rattle.rules.specs.Network.{opening_checks, node_count, network_checks, network_verdict, SoundNetwork}
-use Rattle.rules.specs.Request.{source, target, bus_weight, rider_count, rider_start, rider_node, rider_weight}
+use Rattle.rules.specs.Request.{source, target, bus_weight, rider_count, rider_start, rider_node, rider_weight, request_opening}
 use Rattle.rules.specs.Request.{count_checks, rider_node_checks, node_checks, rider_weight_checks, weight_checks, request_checks, request_verdict}
 use Rattle.rules.specs.Request.{SoundRequest, seven_places, request_value, SoundValue}
-use Rattle.rules.specs.declared.Verdict.TheVariants.{Accepted}
 use Rattle.rules.proofs.Order.{accepted_head, accepted_front, accepted_rest, accepted_each, front_passed, all_pass}
 use Rattle.rules.proofs.TestLaws.{same, within, not_outside}
 use Rattle.rules.proofs.OpeningLaws.{opening_accepted, opened_accepts}
@@ -67,8 +66,8 @@ weights_accepted s e =
 pub request_sound : (n : ℕ) (s : List ℕ) → first_of (request_checks n s) ≡ Accepted → SoundRequest n s
 unfolding request_checks
 request_sound n s e =
-    let opening = opening_accepted 11 1 2 s (accepted_front _ _ e) in
-    let e₁ = accepted_rest (opening_checks 11 1 2 s) _ e in
+    let opening = opening_accepted request_opening s (accepted_front _ _ e) in
+    let e₁ = accepted_rest (opening_checks request_opening s) _ e in
     let counted = count_accepted s (accepted_front _ _ e₁) in
     let e₂ = accepted_rest (count_checks s) _ e₁ in
     let placed = nodes_accepted n s (accepted_front _ _ e₂) in
@@ -114,8 +113,8 @@ weights_accept s so =
 pub sound_request : (n : ℕ) (s : List ℕ) → SoundRequest n s → first_of (request_checks n s) ≡ Accepted
 unfolding request_checks
 sound_request n s so =
-    front_passed (opening_checks 11 1 2 s) _
-    (opened_accepts 11 1 2 s (record { long = so.long; version = (omega arith, omega arith); stated = so.stated }))
+    front_passed (opening_checks request_opening s) _
+    (opened_accepts request_opening s (record { long = so.long; version = (omega arith, omega arith); stated = so.stated }))
     ∙ front_passed (count_checks s) _ (count_accepts s so)
     ∙ front_passed (node_checks n s) _ (nodes_accept n s so)
     ∙ weights_accept s so

@@ -8,21 +8,22 @@ use mathlib.Core.List.{List, [], ◌∷◌, ◌++◌}
 use lib.ListN.{length, take}
 use lib.Seq.{take-append_seam}
 use borrow.Author.Tests.{le-ltb, ltb-false}
-use Rattle.rules.specs.Checks.{Check, check, refuse, first_of}
-use Rattle.rules.specs.Answers.{Outcome, gives, refuses}
+use Rattle.rules.specs.Checks.{number_of, Check, check, refuse, first_of, Verdict, Accepted}
+use Rattle.rules.specs.Answers.{Outcome, gives, refuses, refusal_outcome}
 use Rattle.rules.specs.Rooms.{Written, Put}
 use Rattle.rules.specs.Writing.{Writing, room_check}
-use Rattle.rules.specs.declared.Refusal.{Refusal}
-use Rattle.rules.specs.declared.Verdict.{Verdict}
-use Rattle.rules.specs.declared.Verdict.TheVariants.{Accepted, Refused}
+use Rattle.rules.specs.declared.refusal.Fault.{Fault}
+use Rattle.rules.specs.declared.refusal.Refusal.{Refusal}
 use Rattle.rules.proofs.Clash.{clash}
 use Rattle.rules.proofs.Order.{accepted_head, accepted_front, accepted_rest, front_passed, front_refused}
 use Rattle.rules.proofs.Refusals.{Gives, none_given, check_given}
 use Rattle.rules.proofs.PuttingLaws.{put_written}
+use Rattle.rules.specs.declared.refusal.Fault.TheVariants.{GivenNode, GivenNumber}
+use Rattle.std.specs.Prelude.{Ok, Err}
 
 -- The refusals of numbers.
 abbrev pub NumberRefused : Refusal → Type 0
-NumberRefused r = (r ≡ refuse 81 0) ⊎ (r ≡ refuse 82 0)
+NumberRefused r = (r ≡ refuse GivenNumber 0) ⊎ (r ≡ refuse GivenNode 0)
 
 -- Both have passed.
 pub room_accepted : (checks : List Check) (size room : ℕ) → first_of (checks ++ room_check size room ∷ []) ≡ Accepted
@@ -36,8 +37,8 @@ writing_done {bytes = bytes} {end = end} e put =
     let size : end ≡ length bytes = omega (arith, put.ends) in
     record { answers = rw (e, size); written = rw e (put_written put) }
 
-pub writing_refused : {verdict : Verdict} {bytes before : List ℕ} {r : Refusal} → verdict ≡ Refused r
-    → Writing verdict bytes before before (refuses r.number r.place)
+pub writing_refused : {verdict : Verdict} {bytes before : List ℕ} {r : Refusal} → verdict ≡ Err r
+    → Writing verdict bytes before before (refusal_outcome r)
 writing_refused e = record { answers = rw e; written = rw e }
 
 module _ (checks : List Check) (size : ℕ) (bytes before after : List ℕ) where
@@ -54,8 +55,8 @@ module _ (checks : List Check) (size : ℕ) (bytes before after : List ℕ) wher
     where
       go : (v : Verdict) → first_of (checks ++ room_check size (length before) ∷ []) ≡ v → Writing v bytes before after (gives values)
           → (first_of checks ≡ Accepted) × (values ≡ length bytes ∷ []) × (take (length bytes) after ≡ bytes)
-      go Accepted e w = let told = w.answers in (accepted_front checks _ e, cc, first_bytes w.written)
-      go (Refused r) e w = let told = w.answers in clash (cc)
+      go (Ok _) e w = let told = w.answers in (accepted_front checks _ e, cc, first_bytes w.written)
+      go (Err r) e w = let told = w.answers in clash (cc)
 
   -- What passes and has room is written.
   pub writes : {answer : Outcome} → first_of checks ≡ Accepted → size ≤ length before → Wrote answer
@@ -72,10 +73,10 @@ module _ (checks : List Check) (size : ℕ) (bytes before after : List ℕ) wher
   wants_room {number} {place} passed so = go (first_of (room_check size (length before) ∷ [])) refl (rw (front_passed checks _ passed) at so)
     where
       go : (v : Verdict) → first_of (room_check size (length before) ∷ []) ≡ v → Writing v bytes before after (refuses number place) → number ≡ 83
-      go Accepted e w = let told = w.answers in clash (cc)
-      go (Refused r) e w =
+      go (Ok _) e w = let told = w.answers in clash (cc)
+      go (Err r) e w =
           let told = w.answers in
-          let room = (check_given {P = λ (x : Refusal). x.number ≡ 83} (room_check size (length before)) refl none_given).given r e in
+          let room = (check_given {P = λ (x : Refusal). number_of x.fault ≡ 83} (room_check size (length before)) refl none_given).given r e in
           cc
 
   -- What does not pass is refused for its numbers.
@@ -83,15 +84,12 @@ module _ (checks : List Check) (size : ℕ) (bytes before after : List ℕ) wher
       → (answer ≡ refuses 81 0) ⊎ (answer ≡ refuses 82 0)
   wants_numbers {answer} numbers never so = go (first_of checks) refl
     where
-      outcome : Refusal → Outcome
-      outcome r = refuses r.number r.place
-
       go : (v : Verdict) → first_of checks ≡ v → (answer ≡ refuses 81 0) ⊎ (answer ≡ refuses 82 0)
-      go Accepted e = absurd (never e)
-      go (Refused r) e =
-          let told : answer ≡ refuses r.number r.place = rw (front_refused checks _ r e) at so.answers in
-          ⊎_elim (λ same. inl (told ∙ ap outcome same)) (λ same. inr (told ∙ ap outcome same)) (numbers.given r e)
+      go (Ok _) e = absurd (never e)
+      go (Err r) e =
+          let told : answer ≡ refusal_outcome r = rw (front_refused checks _ r e) at so.answers in
+          ⊎_elim (λ same. inl (told ∙ ap refusal_outcome same)) (λ same. inr (told ∙ ap refusal_outcome same)) (numbers.given r e)
 
-pub number_check : {number : ℕ} {applies : Bool} {rest : List Check} → NumberRefused (refuse number 0) → Gives NumberRefused rest
-    → Gives NumberRefused (check number 0 applies ∷ rest)
+pub number_check : {fault : Fault} {applies : Bool} {rest : List Check} → NumberRefused (refuse fault 0) → Gives NumberRefused rest
+    → Gives NumberRefused (check fault 0 applies ∷ rest)
 number_check one later = check_given _ one later

@@ -1,6 +1,6 @@
 -- What the walking entry, pricing, the tablet's entry and the search answer, and what each leaves in the rooms that it is lent.
-use Rattle.std.specs.Prelude.{ℕ, zero, suc, ◌+◌, ◌*◌, ◌/◌, ◌%◌, ◌<◌, ◌≡◌, List, [], ◌∷◌, ◌++◌, length, get_or, ltb, leb}
-use Rattle.rules.specs.Checks.{Check, check, first_of, differ, beside}
+use Rattle.std.specs.Prelude.{ℕ, zero, suc, ◌+◌, ◌*◌, ◌/◌, ◌%◌, ◌<◌, ◌≡◌, List, [], ◌∷◌, ◌++◌, Result, Ok, Err, length, get_or, ltb, leb}
+use Rattle.rules.specs.Checks.{Verdict, Accepted, Check, check, number_of, first_of, differ, beside}
 use Rattle.rules.specs.Limits.{first_refusal}
 use Rattle.rules.specs.Numbers.{two}
 use Rattle.rules.specs.Network.{node_count, network_checks}
@@ -9,26 +9,26 @@ use Rattle.rules.specs.Walks.{HoldsDistance}
 use Rattle.rules.specs.Routes.{Price, Stranded, route_checks}
 use Rattle.rules.specs.Plans.{RightPlan, NoPlan}
 use Rattle.rules.specs.Rooms.{Kept, Written, Distances, Table, distance_places, table_places, step_places, Lent}
-use Rattle.rules.specs.declared.Refusal.{Refusal}
+use Rattle.rules.specs.declared.refusal.Refusal.{Refusal}
 use Rattle.rules.specs.declared.NetworkRead.{NetworkRead}
 use Rattle.rules.specs.declared.Request.{Request}
 use Rattle.rules.specs.declared.RequestRead.{RequestRead}
-use Rattle.rules.specs.declared.Verdict.{Verdict}
-use Rattle.rules.specs.declared.Verdict.TheVariants.{Accepted, Refused as NotAccepted}
-use Rattle.rules.specs.declared.Priced.{Priced}
-use Rattle.rules.specs.declared.Priced.TheVariants.{Price as Costs, Refused as NotPriced}
-use Rattle.rules.specs.declared.Planned.{Planned}
-use Rattle.rules.specs.declared.Planned.TheVariants.{Plan as Found, Refused as NotPlanned}
+use Rattle.rules.specs.declared.Plan.{Plan}
+use Rattle.rules.specs.declared.refusal.Fault.TheVariants.{DistancesRoom, MeetingRoom, OddRoute, StepsRoom, TableRoom, WalkRoom, WalkStart}
 
 -- An answer in the rules' terms: the values that it gives, or a refusal's number and place.
 pub data Outcome : Type 0 where
   gives : (values : List ℕ) → Outcome
   refuses : (number place : ℕ) → Outcome
 
+-- a refusal by its number (4.2 to 4.7, 4.12)
+abbrev pub refusal_outcome : Refusal → Outcome
+refusal_outcome r = refuses (number_of r.fault) r.place
+
 -- The outcome of a verdict that comes with values:
 abbrev pub outcome_of : Verdict → List ℕ → Outcome
-outcome_of Accepted values = gives values
-outcome_of (NotAccepted r) values = refuses r.number r.place
+outcome_of (Ok passed) values = gives values
+outcome_of (Err r) values = refusal_outcome r
 
 -- of the walking entry, 0 (2.3);
 abbrev pub verdict_outcome : Verdict → Outcome
@@ -41,22 +41,22 @@ network_outcome read = outcome_of read.verdict (read.n ∷ read.m ∷ [])
 abbrev pub request_outcome : RequestRead → Outcome
 request_outcome read = outcome_of read.verdict (rider_count_of read.request ∷ [])
 
--- The outcome of pricing, a price (4.9);
-abbrev pub priced_outcome : Priced → Outcome
-priced_outcome (Costs price) = gives (price ∷ [])
-priced_outcome (NotPriced r) = refuses r.number r.place
+-- The outcome of what gives one number: pricing a price (4.9), and writing the record's length (1.12);
+abbrev pub number_outcome : Result ℕ Refusal → Outcome
+number_outcome (Ok x) = gives (x ∷ [])
+number_outcome (Err r) = refusal_outcome r
 
 -- and of the search, a cost and its number of steps (4.4).
-abbrev pub planned_outcome : Planned → Outcome
-planned_outcome (Found cost count) = gives (cost ∷ count ∷ [])
-planned_outcome (NotPlanned r) = refuses r.number r.place
+abbrev pub planned_outcome : Result Plan Refusal → Outcome
+planned_outcome (Ok plan) = gives (plan.cost ∷ plan.count ∷ [])
+planned_outcome (Err r) = refusal_outcome r
 
 -- Refusals 41 and 42 (4.7).
 abbrev pub walk_checks : List ℕ → ℕ → ℕ → List Check
 walk_checks network start room =
     network_checks network
-    ++ check 41 0 (leb (node_count network) start)
-    ∷ check 42 0 (ltb room (node_count network))
+    ++ check WalkStart 0 (leb (node_count network) start)
+    ∷ check WalkRoom 0 (ltb room (node_count network))
     ∷ []
 
 -- How the walking entry ends, once the verdict on its input is known (2.3, 4.8).
@@ -74,8 +74,8 @@ Walked network start before after answer =
 pub data Pricing (verdict : Verdict) (network : List ℕ) (q : Request) (route : List ℕ) (answer : Outcome) (meetings : List ℕ) : Type 0 where
   refused :
       (r : Refusal)
-      → verdict ≡ NotAccepted r
-      → answer ≡ refuses r.number r.place
+      → verdict ≡ Err r
+      → answer ≡ refusal_outcome r
       → meetings ≡ []
       → Pricing verdict network q route answer meetings
   stranded :
@@ -99,7 +99,7 @@ pub data Pricing (verdict : Verdict) (network : List ℕ) (q : Request) (route :
 abbrev pub price_checks : List ℕ → List ℕ → List ℕ → ℕ → List Check
 price_checks network request route room =
     record_checks network request
-    ++ check 31 0 (ltb room (rider_count_of (request_value request)))
+    ++ check MeetingRoom 0 (ltb room (rider_count_of (request_value request)))
     ∷ route_checks network (request_value request) route
 
 -- The meeting positions stand at the start of their room, and only beside a price (4.9).
@@ -120,7 +120,7 @@ route_of bytes = links_from bytes (length bytes / 2) 0
 abbrev pub tablet_checks : List ℕ → List ℕ → List ℕ → List Check
 tablet_checks network request bytes =
     record_checks network request
-    ++ check 38 0 (differ (length bytes % 2) 0)
+    ++ check OddRoute 0 (differ (length bytes % 2) 0)
     ∷ route_checks network (request_value request) (route_of bytes)
 
 pub record TabletPriced (network request bytes : List ℕ) (answer : Outcome) : Type 0 where
@@ -140,9 +140,9 @@ pub record Tablet (network request bytes : List ℕ) (number : ℕ) : Type 0 whe
 -- Refusals 21 to 23 (4.4), of rooms with so many places.
 abbrev pub room_checks : ℕ → ℕ → ℕ → ℕ → ℕ → List Check
 room_checks n l distances table steps =
-    check 21 0 (ltb distances (distance_places n l))
-    ∷ check 22 0 (ltb table (table_places n l))
-    ∷ check 23 0 (ltb steps (step_places n l))
+    check DistancesRoom 0 (ltb distances (distance_places n l))
+    ∷ check TableRoom 0 (ltb table (table_places n l))
+    ∷ check StepsRoom 0 (ltb steps (step_places n l))
     ∷ []
 
 abbrev pub search_checks : List ℕ → List ℕ → Lent → List Check
@@ -156,8 +156,8 @@ search_checks network request rooms =
 pub data Searching (verdict : Verdict) (network : List ℕ) (q : Request) (before after : Lent) (answer : Outcome) : Type 0 where
   refused :
       (r : Refusal)
-      → verdict ≡ NotAccepted r
-      → answer ≡ refuses r.number r.place
+      → verdict ≡ Err r
+      → answer ≡ refusal_outcome r
       → after ≡ before
       → Searching verdict network q before after answer
   hopeless :

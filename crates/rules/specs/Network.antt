@@ -2,11 +2,12 @@
 -- bytes each, where it starts, where it ends, and what it costs to drive and to walk.
 use Rattle.std.specs.Prelude.{ℕ, zero, suc, ◌+◌, ◌*◌, ◌/◌, ◌≤◌, ◌<◌, Bool, ◌||◌, cond, ◌≡◌, List, [], ◌∷◌, ◌++◌, length, take, drop, ltb, leb}
 use Rattle.std.specs.Borrow.{Bor}
-use Rattle.rules.specs.Checks.{Check, check, first_of, each, differ, outside, beside}
+use Rattle.rules.specs.Checks.{Verdict, Check, check, first_of, each, differ, outside, beside}
 use Rattle.rules.specs.Limits.{most_nodes, most_links}
 use Rattle.rules.specs.Numbers.{byte, two, number, bytes_of, twos_of}
-use Rattle.rules.specs.declared.Verdict.{Verdict}
 use Rattle.rules.specs.declared.NetworkRead.{NetworkRead}
+use Rattle.rules.specs.declared.refusal.Opening.{Opening}
+use Rattle.rules.specs.declared.refusal.Fault.TheVariants.{NetworkShort, NetworkVersion, NetworkLength, NetworkLimits, NetworkParts, LinkNode}
 
 -- Both records open with their version and their length, which has `size` bytes. The rest of a record begins at byte 9.
 abbrev pub version_of : List ℕ → ℕ
@@ -16,12 +17,15 @@ abbrev pub stated_length : ℕ → List ℕ → ℕ
 stated_length size s = number size s 1
 
 -- The three refusals of an opening (4.2, 4.3): too short for it, no version that is known (1 to `latest`), not as long as it states.
-unfoldable pub opening_checks : ℕ → ℕ → ℕ → List ℕ → List Check
-opening_checks lowest latest size s =
-    check lowest 0 (ltb (length s) 9)
-    ∷ check (lowest + 1) 0 (outside 1 latest (version_of s))
-    ∷ check (lowest + 2) 0 (differ (stated_length size s) (length s))
+unfoldable pub opening_checks : Opening → List ℕ → List Check
+opening_checks opens s =
+    check opens.short 0 (ltb (length s) 9)
+    ∷ check opens.version 0 (outside 1 opens.latest (version_of s))
+    ∷ check opens.length 0 (differ (stated_length opens.size s) (length s))
     ∷ []
+
+abbrev pub network_opening : Opening
+network_opening = record { latest = 1; size = 4; short = NetworkShort; version = NetworkVersion; length = NetworkLength }
 
 -- The bytes of an opening: a version, and the length of a record of so many bytes.
 abbrev pub opening_bytes : ℕ → ℕ → ℕ → List ℕ
@@ -70,8 +74,8 @@ network_record n numbers = network_head n (given_links numbers) ++ twos_of numbe
 -- Refusals 4 and 5 (4.2): the limits of n and m, and a length that is no whole number of links or not m of them.
 unfoldable pub size_checks : List ℕ → List Check
 size_checks s =
-    check 4 0 (outside 1 most_nodes (node_count s) || outside 0 most_links (link_count s))
-    ∷ check 5 0 (differ (length s) (link_start (link_count s)))
+    check NetworkLimits 0 (outside 1 most_nodes (node_count s) || outside 0 most_links (link_count s))
+    ∷ check NetworkParts 0 (differ (length s) (link_start (link_count s)))
     ∷ []
 
 -- Refusal 6 (4.2), at link k.
@@ -79,10 +83,10 @@ abbrev pub link_beyond : List ℕ → ℕ → Bool
 link_beyond s k = leb (node_count s) (from s k) || leb (node_count s) (to s k)
 
 abbrev pub link_checks : List ℕ → ℕ → List Check
-link_checks s k = check 6 k (link_beyond s k) ∷ []
+link_checks s k = check LinkNode k (link_beyond s k) ∷ []
 
 unfoldable pub network_checks : List ℕ → List Check
-network_checks s = opening_checks 1 1 4 s ++ (size_checks s ++ each (link_checks s) (link_count s) 0)
+network_checks s = opening_checks network_opening s ++ (size_checks s ++ each (link_checks s) (link_count s) 0)
 
 -- What a network record is that none of these checks refuses.
 pub record SoundNetwork (s : List ℕ) : Type 0 where

@@ -1,13 +1,14 @@
 -- The request record (1.5): a version byte, the record's length in two bytes, source and target in two each, a byte for the bus
 -- weight and one for the rider count; then for each rider the node in two bytes and a byte for the weight.
 use Rattle.std.specs.Prelude.{ℕ, zero, suc, ◌+◌, ◌*◌, ◌≤◌, ◌<◌, ◌≡◌, cond, List, [], ◌∷◌, ◌++◌, map, length, get_or, ltb, leb}
-use Rattle.rules.specs.Checks.{Check, check, first_of, each, differ, outside, beside}
+use Rattle.rules.specs.Checks.{Verdict, Check, check, first_of, each, differ, outside, beside}
 use Rattle.rules.specs.Limits.{most_riders, most_weight}
 use Rattle.rules.specs.Numbers.{byte, two, bytes_of}
 use Rattle.rules.specs.Network.{version_of, stated_length, opening_checks, opening_bytes, node_count, network_checks}
-use Rattle.rules.specs.declared.Verdict.{Verdict}
+use Rattle.rules.specs.declared.refusal.Opening.{Opening}
 use Rattle.rules.specs.declared.Request.{Request}
 use Rattle.rules.specs.declared.RequestRead.{RequestRead}
+use Rattle.rules.specs.declared.refusal.Fault.TheVariants.{RequestShort, RequestVersion, RequestLength, ManyRiders, RequestParts, RequestNode, RequestWeight}
 
 abbrev pub source : List ℕ → ℕ
 source s = two s 3
@@ -33,11 +34,11 @@ rider_weight s j = byte s (rider_start j + 2)
 -- Refusals 14 and 15 (4.3): the limit of the rider count, and a length that is not that of so many riders.
 unfoldable pub count_checks : List ℕ → List Check
 count_checks s =
-    check 14 0 (ltb most_riders (rider_count s)) ∷ check 15 0 (differ (length s) (rider_start (rider_count s))) ∷ []
+    check ManyRiders 0 (ltb most_riders (rider_count s)) ∷ check RequestParts 0 (differ (length s) (rider_start (rider_count s))) ∷ []
 
 -- Refusal 16 (4.3): the places are those of the source, the target, and each rider.
 abbrev pub node_check : ℕ → ℕ → ℕ → Check
-node_check n place node = check 16 place (leb n node)
+node_check n place node = check RequestNode place (leb n node)
 
 abbrev pub rider_node_checks : ℕ → List ℕ → ℕ → List Check
 rider_node_checks n s j = node_check n (2 + j) (rider_node s j) ∷ []
@@ -48,7 +49,7 @@ node_checks n s =
 
 -- Refusal 17 (4.3): the places are those of the bus and of each rider.
 abbrev pub weight_check : ℕ → ℕ → Check
-weight_check place weight = check 17 place (outside 1 most_weight weight)
+weight_check place weight = check RequestWeight place (outside 1 most_weight weight)
 
 abbrev pub rider_weight_checks : List ℕ → ℕ → List Check
 rider_weight_checks s j = weight_check (1 + j) (rider_weight s j) ∷ []
@@ -56,8 +57,11 @@ rider_weight_checks s j = weight_check (1 + j) (rider_weight s j) ∷ []
 unfoldable pub weight_checks : List ℕ → List Check
 weight_checks s = weight_check 0 (bus_weight s) ∷ each (rider_weight_checks s) (rider_count s) 0
 
+abbrev pub request_opening : Opening
+request_opening = record { latest = 1; size = 2; short = RequestShort; version = RequestVersion; length = RequestLength }
+
 unfoldable pub request_checks : ℕ → List ℕ → List Check
-request_checks n s = opening_checks 11 1 2 s ++ (count_checks s ++ (node_checks n s ++ weight_checks s))
+request_checks n s = opening_checks request_opening s ++ (count_checks s ++ (node_checks n s ++ weight_checks s))
 
 -- What a request record for a network of n nodes is that none of these checks refuses.
 pub record SoundRequest (n : ℕ) (s : List ℕ) : Type 0 where

@@ -6,6 +6,7 @@ use Rattle.rules.specs.Network.{link_count, from, to, drive}
 use Rattle.rules.specs.Request.{bus_weight_of, rider_count_of, rider_node_of, rider_weight_of}
 use Rattle.rules.specs.Walks.{Leads, Way, WalkingDistance, no_distance}
 use Rattle.rules.specs.declared.Request.{Request}
+use Rattle.rules.specs.declared.refusal.Fault.TheVariants.{ClosedLink, LinkStart, LongRoute, RouteEnd, UnknownLink}
 
 -- The bus drives links that are open to it, from source to target (2.4). Where these are one node, it need not drive.
 abbrev pub Drivable : List ℕ → ℕ → ℕ → ℕ → ℕ → Type 0
@@ -62,9 +63,9 @@ pub record Price (network : List ℕ) (q : Request) (route : List ℕ) (meetings
 -- Refusals 33 to 35 (4.5) of link k at place i of a route that stands at a node: no such link, closed to the bus, starts elsewhere.
 abbrev pub driven_link_checks : List ℕ → ℕ → ℕ → ℕ → List Check
 driven_link_checks network stands k i =
-    check 33 i (leb (link_count network) k)
-    ∷ check 34 i (leb closed (drive network k))
-    ∷ check 35 i (differ (from network k) stands)
+    check UnknownLink i (leb (link_count network) k)
+    ∷ check ClosedLink i (leb closed (drive network k))
+    ∷ check LinkStart i (differ (from network k) stands)
     ∷ []
 
 abbrev pub route_link_checks : List ℕ → Request → List ℕ → ℕ → List Check
@@ -73,7 +74,7 @@ route_link_checks network q route i = driven_link_checks network (node_at networ
 -- Refusals 32 to 36 (4.5): too long, those of its links, and where it ends.
 unfoldable pub route_checks : List ℕ → Request → List ℕ → List Check
 route_checks network q route =
-    check 32 0 (ltb longest_route (length route))
+    check LongRoute 0 (ltb longest_route (length route))
     ∷ each (route_link_checks network q route) (length route) 0
-    ++ check 36 0 (differ (node_at network q.source route (length route)) q.target)
+    ++ check RouteEnd 0 (differ (node_at network q.source route (length route)) q.target)
     ∷ []

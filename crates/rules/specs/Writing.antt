@@ -1,23 +1,15 @@
 -- Records written from plain numbers (1.11, 1.12): the refusals, and what stands in the room.
 use Rattle.std.specs.Prelude.{ℕ, ◌+◌, ◌*◌, ◌%◌, ◌≡◌, Bool, ◌||◌, cond, List, [], ◌∷◌, ◌++◌, length, get_or, ltb, leb}
-use Rattle.rules.specs.Checks.{Check, check, first_of, each, differ, outside, beside}
+use Rattle.rules.specs.Checks.{Verdict, Accepted, Check, check, first_of, each, differ, outside, beside}
 use Rattle.rules.specs.Limits.{most_nodes, most_links, most_riders, most_weight}
 use Rattle.rules.specs.Numbers.{Fit}
 use Rattle.rules.specs.Network.{node_count, link_numbers, given_links, link_start, network_record, network_verdict}
 use Rattle.rules.specs.Request.{rider_start, seven_places, request_value, request_record, request_verdict}
 use Rattle.rules.specs.Request.{bus_weight_of, rider_count_of, rider_node_of, rider_weight_of}
 use Rattle.rules.specs.Rooms.{Written}
-use Rattle.rules.specs.Answers.{Outcome, gives, refuses, outcome_of}
+use Rattle.rules.specs.Answers.{Outcome, outcome_of}
 use Rattle.rules.specs.declared.Request.{Request}
-use Rattle.rules.specs.declared.Recorded.{Recorded}
-use Rattle.rules.specs.declared.Recorded.TheVariants.{Length, Refused}
-use Rattle.rules.specs.declared.Verdict.{Verdict}
-use Rattle.rules.specs.declared.Verdict.TheVariants.{Accepted}
-
--- The outcome of what writes a record, its length (1.12).
-abbrev pub recorded_outcome : Recorded → Outcome
-recorded_outcome (Length size) = gives (size ∷ [])
-recorded_outcome (Refused r) = refuses r.number r.place
+use Rattle.rules.specs.declared.refusal.Fault.TheVariants.{GivenNode, GivenNumber, RecordRoom}
 
 -- How writing ends, once the verdict on all that is handed over is known: the record stands at the start of the room, or the room is as it was.
 pub record Writing (verdict : Verdict) (bytes before after : List ℕ) (answer : Outcome) : Type 0 where
@@ -26,21 +18,21 @@ pub record Writing (verdict : Verdict) (bytes before after : List ℕ) (answer :
 
 -- Refusal 81 (4.12) of n, and 83 of a room for a record of so many bytes.
 abbrev pub node_count_check : ℕ → Check
-node_count_check n = check 81 0 (outside 1 most_nodes n)
+node_count_check n = check GivenNumber 0 (outside 1 most_nodes n)
 
 abbrev pub room_check : ℕ → ℕ → Check
-room_check size room = check 83 0 (ltb room size)
+room_check size room = check RecordRoom 0 (ltb room size)
 
 -- A network's n, and its links' numbers in one list: 81, then 82 at any link.
 unfoldable pub link_list_checks : ℕ → List ℕ → List Check
 link_list_checks n numbers =
-    node_count_check n ∷ check 81 0 (differ (length numbers % 4) 0) ∷ check 81 0 (ltb most_links (given_links numbers)) ∷ []
+    node_count_check n ∷ check GivenNumber 0 (differ (length numbers % 4) 0) ∷ check GivenNumber 0 (ltb most_links (given_links numbers)) ∷ []
 
 abbrev pub given_link_beyond : ℕ → List ℕ → ℕ → Bool
 given_link_beyond n numbers k = leb n (get_or numbers (4 * k) 0) || leb n (get_or numbers (4 * k + 1) 0)
 
 abbrev pub given_link_checks : ℕ → List ℕ → ℕ → List Check
-given_link_checks n numbers k = check 82 0 (given_link_beyond n numbers k) ∷ []
+given_link_checks n numbers k = check GivenNode 0 (given_link_beyond n numbers k) ∷ []
 
 unfoldable pub network_number_checks : ℕ → List ℕ → List Check
 network_number_checks n numbers = link_list_checks n numbers ++ each (given_link_checks n numbers) (given_links numbers) 0
@@ -66,17 +58,17 @@ place_fault q j =
     (differ (rider_node_of q j) 0 || differ (rider_weight_of q j) 0)
 
 abbrev pub place_checks : Request → ℕ → List Check
-place_checks q j = check 81 0 (place_fault q j) ∷ []
+place_checks q j = check GivenNumber 0 (place_fault q j) ∷ []
 
 unfoldable pub value_checks : ℕ → Request → List Check
 value_checks n q =
     node_count_check n
-    ∷ check 81 0 (ltb most_riders (rider_count_of q))
-    ∷ check 81 0 (outside 1 most_weight (bus_weight_of q))
+    ∷ check GivenNumber 0 (ltb most_riders (rider_count_of q))
+    ∷ check GivenNumber 0 (outside 1 most_weight (bus_weight_of q))
     ∷ each (place_checks q) most_riders 0
 
 abbrev pub given_node_check : ℕ → ℕ → Check
-given_node_check n node = check 82 0 (leb n node)
+given_node_check n node = check GivenNode 0 (leb n node)
 
 abbrev pub given_rider_checks : ℕ → Request → ℕ → List Check
 given_rider_checks n q j = given_node_check n (rider_node_of q j) ∷ []
@@ -119,7 +111,7 @@ value_of numbers =
 
 abbrev pub value_list_checks : ℕ → List ℕ → ℕ → List Check
 value_list_checks n numbers room =
-    check 81 0 (differ (length numbers) value_numbers) ∷ request_write_checks n (value_of numbers) room
+    check GivenNumber 0 (differ (length numbers) value_numbers) ∷ request_write_checks n (value_of numbers) room
 
 abbrev pub ValueListWritten : ℕ → List ℕ → List ℕ → List ℕ → Outcome → Type 0
 ValueListWritten n numbers before after answer =

@@ -1,33 +1,24 @@
 // Tests and checks, as the definitions have them.
-ghost use Rattle.std.specs.Prelude.{◌≡◌, ◌||◌, cond};
+ghost use Rattle.std.specs.Prelude.{◌≡◌, ◌||◌, cond, Err};
 ghost use Rattle.rules.specs.Checks;
-ghost use Rattle.rules.specs.Checks.{refuse};
+ghost use Rattle.rules.specs.Checks.{Accepted, refuse};
 
-use crate::{Verdict, refused};
+use crate::{Fault, Refusal};
 
-// The refusal where its test holds, and otherwise what the later checks say.
-pub fn checked(applies: bool, number: u16, place: usize, later: Verdict) -> Verdict
-    ensures { result ≡ cond applies (Verdict.Refused (refuse number place)) later }
+// One check: the refusal where its test holds.
+pub fn check(applies: bool, fault: Fault, place: usize) -> Result<(), Refusal>
+    ensures { result ≡ cond applies (Err (refuse fault place)) Accepted }
 {
     if applies {
-        return refused(number, place);
+        Err(fault.at(place))
+    } else {
+        Ok(())
     }
-    later
 }
 
 // Whether x is below low or above high.
 pub fn outside(low: usize, high: usize, x: usize) -> bool
     ensures { result ≡ Checks.outside low high x }
 {
-    either(x < low, high < x)
-}
-
-// Whether one of the two holds.
-pub fn either(a: bool, b: bool) -> bool
-    ensures { result ≡ (a || b) }
-{
-    if a {
-        return true;
-    }
-    b
+    x < low || high < x
 }

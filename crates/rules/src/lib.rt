@@ -3,9 +3,9 @@
 
 pub mod checks;
 pub mod inner;
+mod refusal;
 
-ghost use Rattle.std.specs.Prelude.{◌≡◌};
-ghost use Rattle.rules.specs.Checks.{refuse};
+pub use refusal::{Fault, NETWORK_OPENING, Opening, REQUEST_OPENING, Refusal};
 
 // How many nodes and links a network may have, how many riders a request, and how much the bus or a rider may weigh.
 pub const MOST_NODES: usize = 512;
@@ -41,37 +41,16 @@ pub const LONGEST_ROUTE: usize = 4095;
 // A host gets a refusal as this number or more.
 pub const FIRST_REFUSAL: u64 = 9223372036854775808;
 
-// A refusal: its number, and the place it names (0 where it names none).
-#[derive(Clone, Copy)]
-pub struct Refusal {
-    pub number: u16,
-    pub place: usize,
-}
-
-// The answer of an entry that hands back no number of its own.
-#[derive(Clone, Copy)]
-pub enum Verdict {
-    Accepted,
-    Refused(Refusal),
-}
-
-// The verdict that refuses with a number, at a place.
-pub fn refused(number: u16, place: usize) -> Verdict
-    ensures { result ≡ Verdict.Refused (refuse number place) }
-{
-    Verdict::Refused(Refusal { number, place })
-}
-
 // What reading a network gives: its sizes, or 0 for each where the verdict is a refusal.
 #[derive(Clone, Copy)]
 pub struct NetworkRead {
-    pub verdict: Verdict,
+    pub verdict: Result<(), Refusal>,
     pub n: usize,
     pub m: usize,
 }
 
 // A request as one value: what its record says, and zeros where it has no rider.
-#[derive(Clone, Copy)]
+#[derive(Clone, Copy, Default)]
 pub struct Request {
     pub source: usize,
     pub target: usize,
@@ -84,27 +63,13 @@ pub struct Request {
 // What reading a request gives: its value, or zeros throughout where the verdict is a refusal.
 #[derive(Clone, Copy)]
 pub struct RequestRead {
-    pub verdict: Verdict,
+    pub verdict: Result<(), Refusal>,
     pub request: Request,
 }
 
-// The answer of what writes a record: the record's length, or why none was written.
-#[derive(Clone, Copy)]
-pub enum Recorded {
-    Length(usize),
-    Refused(Refusal),
-}
-
-// The answer of pricing.
-#[derive(Clone, Copy)]
-pub enum Priced {
-    Price(u64),
-    Refused(Refusal),
-}
-
-// What the search answers: what the plan costs and how many steps it has, or why there is none.
-#[derive(Clone, Copy)]
-pub enum Planned {
-    Plan { cost: u64, count: usize },
-    Refused(Refusal),
+// What the search finds: what the right plan costs, and how many steps it has.
+#[derive(Clone, Copy, PartialEq, Eq)]
+pub struct Plan {
+    pub cost: u64,
+    pub count: usize,
 }

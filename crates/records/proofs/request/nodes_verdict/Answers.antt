@@ -1,21 +1,9 @@
 use native.Mathlib.Omega.{arith}
-use borrow.Author.Rules.{rules}
 use Rattle.rules.specs.Checks.{first_of}
 use Rattle.rules.specs.Request.{node_checks}
-use Rattle.rules.proofs.JudgingLaws.{judged_none, judged_more, judged_all}
+use Rattle.rules.proofs.Order.{passed_here}
 use Rattle.records.proofs.request.nodes_verdict.Goals as goal
 
-pub loop-j-init : goal.loop-j-init
-loop-j-init c = judged_none c.rider_count-j.ensures.value
-
-pub loop-j-preserved : goal.loop-j-preserved
-unfolding first_of
-loop-j-preserved c =
-    let here = c.loop-j in
-    judged_more here.invariant (search rules) (rw (c.checked-verdict.ensures, c.rider_node.ensures.value, here.invariant.says))
-
-pub returns : goal.returns
-unfolding node_checks first_of
-returns c =
-    rw (c.checked-2.ensures, c.checked.ensures, c.request_target.ensures.value)
-    (rw (c.request_source.ensures.value, judged_all c.loop-j.invariant (omega arith)))
+pub returns-in_err-check-3 : goal.returns-in_err-check-3
+unfolding first_of node_checks
+returns-in_err-check-3 c = let here = passed_here _ _ _ c.loop-j.invariant (omega arith) in grind (arith, here)

@@ -3,10 +3,8 @@ use native.Mathlib.Nat.{le_of_eq}
 use mathlib.Core.Path.{◌≡◌, sym, ◌∙◌}
 use Prim.Native.Nat.{ℕ}
 use mathlib.Core.List.{List}
-use Rattle.rules.specs.Checks.{first_of}
+use Rattle.rules.specs.Checks.{first_of, Verdict, Accepted}
 use Rattle.rules.specs.Request.{SoundRequest, request_checks}
-use Rattle.rules.specs.declared.Verdict.{Verdict}
-use Rattle.rules.specs.declared.Verdict.TheVariants.{Accepted}
 use Rattle.rules.proofs.SoundRequestLaws.{request_sound, value_sound}
 use Rattle.records.proofs.accepted.Network.read_request.Goals as goal
 
@@ -16,9 +14,9 @@ sound counted told passes = request_sound _ _ (rw counted at (sym told ∙ passe
 
 pub request_value-requires : goal.request_value-requires
 request_value-requires c =
-    let so = sound c.node_count.ensures.value c.own_verdict.ensures c.in-Accepted.is in
+    let so = sound c.node_count.ensures.value c.own_verdict.ensures (c.in_ok-own_verdict.was) in
     (so.riders, le_of_eq (sym so.whole))
 
-pub returns-in-Accepted-clause-value : goal.returns-in-Accepted-clause-value
-returns-in-Accepted-clause-value c =
-    (c.request_value.ensures, rw c.request_value.ensures (value_sound _ _ (sound c.node_count.ensures.value c.own_verdict.ensures c.in-Accepted.is)))
+pub returns-clause-value : goal.returns-clause-value
+returns-clause-value c =
+    (c.request_value.ensures, rw c.request_value.ensures (value_sound _ _ (sound c.node_count.ensures.value c.own_verdict.ensures (c.in_ok-own_verdict.was))))
