@@ -68,7 +68,7 @@ fn sizes_verdict(network: &[u8]) -> Result<(), Refusal>
 }
 
 // Refusal 6 at the lowest link that names a node of n or more.
-#[tactic(auto, using(rules::proofs::Order::passed_more, rules::proofs::Order::passed_all), unfolding(rules::specs::Checks::first_of))]
+#[tactic(auto, using(rules::proofs::Order::each_here, rules::proofs::Order::passed_more, rules::proofs::Order::passed_all), unfolding(rules::specs::Checks::first_of))]
 fn links_verdict(network: &[u8]) -> Result<(), Refusal>
     requires { link_start (link_count network.now) ≤ length network.now }
     ensures { result ≡ first_of (each (link_checks network.now) (link_count network.now) 0) }

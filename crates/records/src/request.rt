@@ -88,7 +88,7 @@ fn count_verdict(request: &[u8]) -> Result<(), Refusal>
 }
 
 // Refusal 16 at the lowest place that names a node of n or more.
-#[tactic(auto, using(rules::proofs::Order::passed_more, rules::proofs::Order::passed_all), unfolding(rules::specs::Checks::first_of, rules::specs::Request::node_checks))]
+#[tactic(auto, using(rules::proofs::Order::each_here, rules::proofs::Order::passed_more, rules::proofs::Order::passed_all), unfolding(rules::specs::Checks::first_of, rules::specs::Request::node_checks))]
 fn nodes_verdict(request: &[u8], n: usize) -> Result<(), Refusal>
     requires { rider_start (rider_count request.now) ≤ length request.now }
     ensures { result ≡ first_of (node_checks n request.now) }
@@ -105,7 +105,7 @@ fn nodes_verdict(request: &[u8], n: usize) -> Result<(), Refusal>
 }
 
 // Refusal 17 at the lowest place with a weight outside its limits.
-#[tactic(auto, using(rules::proofs::Order::passed_more, rules::proofs::Order::passed_all), unfolding(rules::specs::Checks::first_of, rules::specs::Request::weight_checks))]
+#[tactic(auto, using(rules::proofs::Order::each_here, rules::proofs::Order::passed_more, rules::proofs::Order::passed_all), unfolding(rules::specs::Checks::first_of, rules::specs::Request::weight_checks))]
 fn weights_verdict(request: &[u8]) -> Result<(), Refusal>
     requires { rider_start (rider_count request.now) ≤ length request.now }
     ensures { result ≡ first_of (weight_checks request.now) }

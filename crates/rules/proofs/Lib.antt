@@ -4,7 +4,6 @@ pub mod Clash
 pub mod FaultLaws
 pub mod Four
 pub mod Order
-pub mod JudgingLaws
 pub mod TestLaws
 pub mod OpeningLaws
 pub mod SoundNetworkLaws

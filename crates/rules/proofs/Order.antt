@@ -114,6 +114,11 @@ each_from checks count k h =
     let left : count - k ≡ suc (count - (k + 1)) = omega arith in
     rw (left, add-one)
 
+-- what is left from k on: thing k, and then those behind it
+pub each_here : (checks : ℕ → List Check) (count k : ℕ) → k < count
+    → first_of (each checks (count - k) k) ≡ then (first_of (checks k)) (first_of (each checks (count - (k + 1)) (k + 1)))
+each_here checks count k h = ap first_of (each_from checks count k h) ∙ in_order (checks k) (each checks (count - (k + 1)) (k + 1))
+
 -- Of `count` things in a row the first k have passed: what is left gives the whole.
 pub record Passed (checks : ℕ → List Check) (count k : ℕ) : Type 0 where
   pub within : k ≤ count
@@ -133,12 +138,6 @@ module _ (checks : ℕ → List Check) (count : ℕ) where
               ∙ ap first_of (sym (each_from checks count k h))
               ∙ so.left;
         }
-
-    pub passed_here : k < count → first_of (each checks count 0) ≡ then (first_of (checks k)) (first_of (each checks (count - (k + 1)) (k + 1)))
-    passed_here h =
-        sym so.left
-        ∙ ap first_of (each_from checks count k h)
-        ∙ in_order (checks k) (each checks (count - (k + 1)) (k + 1))
 
     pub passed_all : count ≤ k → first_of (each checks count 0) ≡ Accepted
     unfolding each first_of

@@ -3,26 +3,27 @@ use Prim.Native.Nat.{ℕ}
 use native.Mathlib.Omega.{arith}
 use mathlib.Core.Path.{◌≡◌, refl}
 use mathlib.Core.List.{List, [], ◌∷◌}
+use Rattle.rules.specs.declared.refusal.Refusal.{Refusal}
 use Rattle.rules.specs.Checks.{first_of, each}
 use Rattle.rules.specs.Limits.{closed}
 use Rattle.rules.specs.Numbers.{bytes_of, twos_of}
 use Rattle.rules.specs.Request.{seven_places, riders_from}
-use Rattle.rules.specs.Answers.{Outcome, gives, refuses}
+use Rattle.rules.specs.Answers.{Outcome, gives, refuses, number_outcome}
 use Rattle.rules.specs.Town.{link, case_a}
-use Rattle.rules.specs.Writing.{recorded_outcome, link_list_checks, network_number_checks, NetworkWritten, value_checks}
+use Rattle.rules.specs.Writing.{link_list_checks, network_number_checks, NetworkWritten, value_checks}
 use Rattle.rules.specs.Writing.{request_number_checks, RequestWritten}
-use Rattle.rules.specs.declared.Recorded.{Recorded}
 use Rattle.rules.specs.declared.Request.{Request}
 use Rattle.rules.proofs.AnswerLaws.{write_settled, refuses_same}
+use Rattle.std.specs.Prelude.{Result}
 
 -- ---- any two results agree
-module _ {before a b : List ℕ} {x y : Recorded} where
-  pub network_write_settled : (n : ℕ) (numbers : List ℕ) → NetworkWritten n numbers before a (recorded_outcome x)
-      → NetworkWritten n numbers before b (recorded_outcome y) → (a ≡ b) × (x ≡ y)
+module _ {before a b : List ℕ} {x y : (Result ℕ Refusal)} where
+  pub network_write_settled : (n : ℕ) (numbers : List ℕ) → NetworkWritten n numbers before a (number_outcome x)
+      → NetworkWritten n numbers before b (number_outcome y) → (a ≡ b) × (x ≡ y)
   network_write_settled n numbers p q = write_settled p q
 
-  pub request_write_settled : (n : ℕ) (q : Request) → RequestWritten n q before a (recorded_outcome x)
-      → RequestWritten n q before b (recorded_outcome y) → (a ≡ b) × (x ≡ y)
+  pub request_write_settled : (n : ℕ) (q : Request) → RequestWritten n q before a (number_outcome x)
+      → RequestWritten n q before b (number_outcome y) → (a ≡ b) × (x ≡ y)
   request_write_settled n q p r = write_settled p r
 
 -- ---- case A as bytes

@@ -1,6 +1,6 @@
 // Numbers put into a room that is known to be long enough, the highest byte first. Whatever writes a record puts its numbers
 // by these.
-ghost use Rattle.std.specs.Prelude.{◌+◌, ◌*◌, ◌<◌, ◌≤◌, ◌≡◌, length, get_or};
+ghost use Rattle.std.specs.Prelude.{◌+◌, ◌*◌, ◌≤◌, length};
 ghost use Rattle.rules.specs.Network.{opening_bytes, link_start, network_head};
 ghost use Rattle.rules.specs.Numbers.{bytes_of, twos_of};
 ghost use Rattle.rules.specs.Rooms.{Put};
@@ -14,21 +14,11 @@ pub fn put_number(x: usize, size: usize, room: &mut [u8], at: usize) -> usize
 {
     let end = at + size;
     let mut left = x;
-    let mut i = end;
-    while at < i {
-        i -= 1;
+    for i in (at..end).rev() {
         room[i] = (left % 256) as u8;
         left /= 256;
     }
     end
-}
-
-// Number i of a list.
-pub fn number_at(numbers: &[u16], i: usize) -> usize
-    requires { i < length numbers.now }
-    ensures { result ≡ get_or numbers.now i 0 }
-{
-    numbers[i] as usize
 }
 
 // Puts numbers of two bytes each, one behind the other, and gives the place behind.
@@ -37,10 +27,8 @@ pub fn put_twos(numbers: &[u16], room: &mut [u8], at: usize) -> usize
     ensures { Put at (twos_of numbers.now) room.old room.new result }
 {
     let mut end = at;
-    let mut i = 0;
-    while i < numbers.len() {
-        end = put_number(number_at(numbers, i), 2, room, end);
-        i += 1;
+    for &x in numbers {
+        end = put_number(x as usize, 2, room, end);
     }
     end
 }

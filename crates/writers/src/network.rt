@@ -3,22 +3,20 @@ ghost use Rattle.std.specs.Prelude.{◌*◌, ◌≤◌, ◌≡◌, length};
 ghost use Rattle.rules.specs.Checks.{first_of, each};
 ghost use Rattle.rules.specs.Network.{given_links, link_start, network_record};
 ghost use Rattle.rules.specs.Rooms.{Put};
-ghost use Rattle.rules.specs.Writing.{recorded_outcome, link_list_checks, given_link_checks, network_number_checks, network_write_checks, NetworkWritten};
+ghost use Rattle.rules.specs.Answers.{number_outcome};
+ghost use Rattle.rules.specs.Writing.{link_list_checks, given_link_checks, network_number_checks, network_write_checks, NetworkWritten};
 
-use crate::inner::{number_at, put_network_head, put_twos};
-use rules::checks::{checked, either, outside};
+use crate::inner::{put_network_head, put_twos};
+use rules::checks::{check, outside};
 use rules::inner::link_start;
-use rules::{MOST_LINKS, MOST_NODES, Recorded, Verdict};
+use rules::{Fault, MOST_LINKS, MOST_NODES, Refusal};
 
 // Writes the record of a network from n and its links' numbers, four for each: its length, or its refusal (1.11, 4.12).
-pub fn write_network(n: usize, links: &[u16], room: &mut [u8]) -> Recorded
-    ensures { NetworkWritten n links.now room.old room.new (recorded_outcome result) }
+pub fn write_network(n: usize, links: &[u16], room: &mut [u8]) -> Result<usize, Refusal>
+    ensures { NetworkWritten n links.now room.old room.new (number_outcome result) }
 {
-    let verdict = network_verdict(n, links, room.len());
-    let Verdict::Refused(r) = verdict else {
-        return Recorded::Length(put_network(n, links, room));
-    };
-    Recorded::Refused(r)
+    network_verdict(n, links, room.len())?;
+    Ok(put_network(n, links, room))
 }
 
 // Puts the record at the start of the room, and gives its length.
@@ -31,56 +29,43 @@ fn put_network(n: usize, links: &[u16], room: &mut [u8]) -> usize
 }
 
 // Refusals 81 to 83, for a room of so many bytes.
-fn network_verdict(n: usize, links: &[u16], room: usize) -> Verdict
+#[tactic(auto, using(rules::proofs::Order::in_order), unfolding(rules::specs::Checks::first_of))]
+fn network_verdict(n: usize, links: &[u16], room: usize) -> Result<(), Refusal>
     ensures { result ≡ first_of (network_write_checks n links.now room) }
 {
-    let numbers = numbers_verdict(n, links);
-    let Verdict::Accepted = numbers else {
-        return numbers;
-    };
-    checked(room < link_start(links.len() / 4), 83, 0, Verdict::Accepted)
+    numbers_verdict(n, links)?;
+    check(room < link_start(links.len() / 4), Fault::RecordRoom, 0)
 }
 
-// Refusals 81 and 82. Both verdicts are there before one is chosen, so that their order is said once.
-fn numbers_verdict(n: usize, links: &[u16]) -> Verdict
+// Refusals 81 and 82.
+#[tactic(auto, using(rules::proofs::Order::in_order), unfolding(rules::specs::Writing::network_number_checks))]
+fn numbers_verdict(n: usize, links: &[u16]) -> Result<(), Refusal>
     ensures { result ≡ first_of (network_number_checks n links.now) }
 {
-    let list = list_verdict(n, links);
-    let ends = links_verdict(n, links);
-    let Verdict::Accepted = list else {
-        return list;
-    };
-    ends
+    list_verdict(n, links)?;
+    links_verdict(n, links)
 }
 
 // Refusal 81: n, and how many numbers there are.
-fn list_verdict(n: usize, links: &[u16]) -> Verdict
+#[tactic(auto, unfolding(rules::specs::Checks::first_of, rules::specs::Writing::link_list_checks))]
+fn list_verdict(n: usize, links: &[u16]) -> Result<(), Refusal>
     ensures { result ≡ first_of (link_list_checks n links.now) }
 {
-    let nodes = outside(1, MOST_NODES, n);
     let parts = links.len() % 4 != 0;
     let many = MOST_LINKS < links.len() / 4;
-    checked(
-        nodes,
-        81,
-        0,
-        checked(parts, 81, 0, checked(many, 81, 0, Verdict::Accepted)),
-    )
+    check(outside(1, MOST_NODES, n), Fault::GivenNumber, 0)?;
+    check(parts, Fault::GivenNumber, 0)?;
+    check(many, Fault::GivenNumber, 0)
 }
 
 // Refusal 82, at any link.
-fn links_verdict(n: usize, links: &[u16]) -> Verdict
+#[tactic(auto, using(rules::proofs::Order::each_here, rules::proofs::Order::passed_more, rules::proofs::Order::passed_all), unfolding(rules::specs::Checks::first_of))]
+fn links_verdict(n: usize, links: &[u16]) -> Result<(), Refusal>
     ensures { result ≡ first_of (each (given_link_checks n links.now) (given_links links.now) 0) }
 {
-    let mut k = links.len() / 4;
-    let mut verdict = Verdict::Accepted;
-    while 0 < k {
-        k -= 1;
-        let beyond = either(
-            n <= number_at(links, 4 * k),
-            n <= number_at(links, 4 * k + 1),
-        );
-        verdict = checked(beyond, 82, 0, verdict);
+    for k in 0..links.len() / 4 {
+        let beyond = n <= links[4 * k] as usize || n <= links[4 * k + 1] as usize;
+        check(beyond, Fault::GivenNode, 0)?;
     }
-    verdict
+    Ok(())
 }

@@ -1,9 +1,0 @@
-use native.Mathlib.Omega.{arith}
-use Rattle.rules.specs.Checks.{first_of}
-use Rattle.rules.specs.Request.{weight_checks}
-use Rattle.rules.proofs.Order.{passed_here}
-use Rattle.records.proofs.request.weights_verdict.Goals as goal
-
-pub returns-in_err-check-2 : goal.returns-in_err-check-2
-unfolding first_of weight_checks
-returns-in_err-check-2 c = let here = passed_here _ _ _ c.loop-j.invariant (omega arith) in grind (arith, here)
