@@ -12,7 +12,8 @@ pub fn walk_from(network: &Network, start: usize, distances: &mut [u32])
     requires { (start < node_count network.now.bytes) × (node_count network.now.bytes ≤ length distances.old) }
     ensures { Row network.now.bytes start distances.old distances.new }
 {
-    distances[..network.node_count()].fill(NO_DISTANCE);
+    let n = network.node_count();
+    distances[..n].fill(NO_DISTANCE);
     distances[start] = 0;
     spread_walks(network, distances);
 }
