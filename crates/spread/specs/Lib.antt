@@ -1,3 +1,2 @@
--- What the engines are lent, and what one that relaxes arcs has done so far.
-pub mod Lent
+-- What the engine that relaxes arcs has done so far.
 pub mod Relaxing

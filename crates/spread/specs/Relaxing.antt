@@ -1,5 +1,5 @@
 -- What a network engine that relaxes arcs has done so far.
-use Rattle.std.specs.Prelude.{ℕ, ◌+◌, ◌<◌, ◌≤◌, ◌≡◌, List, [], ◌∷◌, get_or, set}
+use Rattle.std.specs.Prelude.{ℕ, ◌+◌, ◌<◌, ◌≤◌, ◌≡◌, Bool, true, false, List, [], ◌∷◌, get_or, set}
 use Rattle.least.specs.Trips.{Arcs}
 
 -- Places below n were lowered along arcs, one after the other, from `before` to `after`.
@@ -14,14 +14,14 @@ pub data Relaxing (n : ℕ) (Arc : Arcs) (before : List ℕ) : List ℕ → Type
       → after ≡ set mid u (w + get_or mid v 0)
       → Relaxing n Arc before after
 
--- Place u was lowered to w and place v, which is one change; or it was no higher, and nothing changed.
-pub data Lowered (u v w : ℕ) (before after : List ℕ) (changes : ℕ) : Type 0 where
-  low : get_or before u 0 ≤ w + get_or before v 0 → after ≡ before → changes ≡ 0 → Lowered u v w before after changes
+-- Place u was lowered to w and place v, which is a change; or it was no higher, and nothing changed.
+pub data Lowered (u v w : ℕ) (before after : List ℕ) (changed : Bool) : Type 0 where
+  low : get_or before u 0 ≤ w + get_or before v 0 → after ≡ before → changed ≡ false → Lowered u v w before after changed
   lower :
       w + get_or before v 0 < get_or before u 0
       → after ≡ set before u (w + get_or before v 0)
-      → changes ≡ 1
-      → Lowered u v w before after changes
+      → changed ≡ true
+      → Lowered u v w before after changed
 
 -- No arc of link k makes a sum of t smaller.
 abbrev pub RelaxedLink : (ℕ → Arcs) → ℕ → List ℕ → Type 0
@@ -35,8 +35,8 @@ unfoldable pub total : List ℕ → ℕ
 total [] = 0
 total (x ∷ xs) = x + total xs
 
--- So many places were lowered from `before` to `after`; if none was, then `Settled` holds of what stands there.
-pub record Progress (n : ℕ) (Arc : Arcs) (Settled : List ℕ → Type 0) (before after : List ℕ) (changes : ℕ) : Type 0 where
+-- Places were lowered from `before` to `after`, if any; if none was, then `Settled` holds of what stands there.
+pub record Progress (n : ℕ) (Arc : Arcs) (Settled : List ℕ → Type 0) (before after : List ℕ) (changed : Bool) : Type 0 where
   pub relaxing : Relaxing n Arc before after
-  pub quiet : changes ≡ 0 → (after ≡ before) × Settled after
-  pub falls : 0 < changes → total after < total before
+  pub quiet : changed ≡ false → (after ≡ before) × Settled after
+  pub falls : changed ≡ true → total after < total before

@@ -1,6 +1,7 @@
-// The network engines: they spread least sums over the arcs of a network.
+// The network engine: it spreads least sums over the arcs of a network.
 #![tactic(auto)]
 
 mod drives;
+mod engine;
 pub mod inner;
 mod walks;

@@ -1,68 +1,77 @@
-// Walking, in rounds over all links until nothing changes.
-ghost use Rattle.std.specs.Prelude.{◌≤◌, ◌<◌, length};
+// Walking: a link open to walkers leads either way.
+ghost use Rattle.std.specs.Prelude.{ℕ, ◌≤◌, ◌<◌, List, length};
 ghost use Rattle.rules.specs.Network.{node_count, link_count};
 ghost use Rattle.rules.specs.Walks.{Walkable, no_distance};
 ghost use Rattle.least.specs.Spread.{Spread};
 ghost use Rattle.least.specs.WalkTrips.{WalkArcs};
-ghost use Rattle.spread.specs.Relaxing.{Lowered, RelaxedLink, RelaxedBelow, Progress};
-ghost use Rattle.spread.specs.Lent.{LentRoom};
+ghost use Rattle.spread.specs.Relaxing.{Lowered};
+ghost use Rattle.least.proofs.WalkTrips.{inside};
+ghost use Rattle.rules.proofs.WalkLaws.{walk_joins};
 
-use records::inner::{from, link_count, to, walk};
+use crate::engine::{Links, spread};
+use records::inner::Network;
 use rules::CLOSED;
 
+// The links as walkers see them.
+#[derive(Drop)]
+struct Walks<'a> {
+    network: &'a Network<'a>,
+}
+
 // Spreads distances along links open to walkers, from the values that stand there.
-pub fn spread_walks(network: &[u8], distances: &mut [u32])
-    requires { LentRoom network.now distances.old }
-    ensures { Spread no_distance (node_count network.now) (WalkArcs network.now)
+pub fn spread_walks(network: &Network, distances: &mut [u32])
+    requires { node_count network.now.bytes ≤ length distances.old }
+    ensures { Spread no_distance (node_count network.now.bytes) (WalkArcs network.now.bytes)
         distances.old distances.new }
 {
-    while walk_round(network, distances) != 0 {}
+    spread(&Walks { network }, distances);
 }
 
-// One round over all links: how many of them made a distance smaller.
-fn walk_round(network: &[u8], distances: &mut [u32]) -> usize
-    requires { LentRoom network.now distances.old }
-    ensures { Progress (node_count network.now) (WalkArcs network.now)
-        (RelaxedBelow (Walkable network.now) (link_count network.now)) distances.old distances.new result }
-{
-    let m = link_count(network);
-    let mut changes = 0;
-    let mut k = 0;
-    while k < m {
-        changes += relax_walk(network, k, distances);
-        k += 1;
+impl<'a> Links for Walks<'a> {
+    type Place = u32;
+
+    ghost sums = { λ distances. distances };
+
+    ghost cap = { no_distance };
+
+    ghost node_count = { λ it. node_count it.network.now.bytes };
+
+    ghost link_count = { λ it. link_count it.network.now.bytes };
+
+    ghost arcs = { λ it. Walkable it.network.now.bytes };
+
+    ghost inside = { λ it. inside it.network.now.sound };
+
+    ghost exist = { λ it k u v w link. (walk_joins it.network.now.sound link).exists };
+
+    fn link_count(&self) -> usize {
+        self.network.link_count()
     }
-    changes
+
+    // It costs the same there and back, so only the farther of the two nodes can come nearer.
+    fn relax(&self, k: usize, distances: &mut [u32]) -> bool {
+        let cost = self.network.walk(k);
+        if CLOSED <= cost as u64 {
+            return false;
+        }
+        let start = self.network.from(k);
+        let end = self.network.to(k);
+        if distances[start] <= distances[end] {
+            return shorten(distances, start, end, cost);
+        }
+        shorten(distances, end, start, cost)
+    }
 }
 
-// Relaxes link k: 1 if the distance of one of its two nodes is made smaller by walking it, and 0 if not. It costs the same there
-// and back, so this can only be the farther node.
-fn relax_walk(network: &[u8], k: usize, distances: &mut [u32]) -> usize
-    requires { (k < link_count network.now) × LentRoom network.now distances.old }
-    ensures { (result ≤ 1) × Progress (node_count network.now) (WalkArcs network.now)
-        (RelaxedLink (Walkable network.now) k) distances.old distances.new result }
-{
-    let cost = walk(network, k);
-    if CLOSED <= cost as u64 {
-        return 0;
-    }
-    let start = from(network, k);
-    let end = to(network, k);
-    if distances[start] <= distances[end] {
-        return shorten(distances, start, end, cost);
-    }
-    shorten(distances, end, start, cost)
-}
-
-// Makes the distance of a far node that of a near one and the cost, if that is smaller: 1 if it is, and 0 if not.
-fn shorten(distances: &mut [u32], near: usize, far: usize, cost: u32) -> usize
+// Makes the distance of a far node that of a near one and the cost, if that is smaller: whether it is.
+fn shorten(distances: &mut [u32], near: usize, far: usize, cost: u32) -> bool
     requires { (near < length distances.old) × (far < length distances.old) }
     ensures { Lowered far near cost distances.old distances.new result }
 {
     let sum = cost as u64 + distances[near] as u64;
     if distances[far] as u64 <= sum {
-        return 0;
+        return false;
     }
     distances[far] = sum as u32;
-    1
+    true
 }

@@ -1,12 +1,14 @@
 -- The room before the first round, 0 at the start and none everywhere else, and what the engine makes of it.
-use Prim.Native.Nat.{ℕ, ◌<◌}
+use Prim.Native.Nat.{ℕ, ◌<◌, ◌≤◌}
 use native.Mathlib.Omega.{arith}
 use native.Mathlib.Decide.{ℕ_discrete}
 use mathlib.Core.Path.{◌≡◌, ◌∙◌}
 use mathlib.Core.Logic.{◌≢◌}
-use mathlib.Core.List.{List}
-use lib.ListN.{get_or, set}
+use mathlib.Core.List.{List, ◌++◌}
+use lib.ListN.{length, get_or, set, take, drop, replicate}
 use lib.Seq.{get_or-set_same, get_or-set_other}
+use Rattle.std.proofs.Common.{length-append, length-drop}
+use Rattle.std.proofs.lemmas.List.{drop_at, get_or_append_left, get_or-replicate, length-replicate, length-take-le}
 use Rattle.rules.specs.Network.{SoundNetwork, node_count}
 use Rattle.rules.specs.Walks.{no_distance}
 use Rattle.rules.specs.Rooms.{WrittenTo}
@@ -19,6 +21,18 @@ use Rattle.least.proofs.Least.{least_none}
 use Rattle.least.proofs.Trips.{compose}
 use Rattle.least.proofs.WalkTrips.{inside, distance}
 use Rattle.walk.specs.Row.{Row}
+
+-- the first n places filled with x
+pub filled : {n x : ℕ} {before part : List ℕ} → n ≤ length before → part ≡ replicate (length (take n before)) x
+    → WrittenTo (λ v. x) n before (part ++ drop n before)
+filled {n} {x} {before} {part} fits is =
+    let whole : part ≡ replicate n x = rw (length-take-le n before fits) at is in
+    let size : length part ≡ n = rw whole (length-replicate n x) in
+    record {
+      within = fits;
+      kept = record { size = simp (length-append, length-drop) (omega (arith, size)); later = drop_at part _ n size };
+      holds = λ v h. get_or_append_left part _ 0 v (omega (arith, size)) ∙ rw whole (get_or-replicate n v x 0 h);
+    }
 
 -- 0 at the start and the cap elsewhere are the least ways to be done at once
 lone : {cap start u value : ℕ} → (u ≡ start → value ≡ 0) → (u ≢ start → value ≡ cap) → Least cap (At start u) value

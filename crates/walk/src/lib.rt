@@ -5,7 +5,7 @@ pub mod inner;
 
 ghost use Rattle.rules.specs.Answers.{verdict_outcome, Walked};
 
-use records::read_network;
+use records::inner::Network;
 use rules::{Verdict, refused};
 
 // Fills the first n places of `distances` with the walking distances from `start`, 4,294,967,295 where there is no
@@ -13,18 +13,17 @@ use rules::{Verdict, refused};
 pub fn walk(network: &[u8], start: usize, distances: &mut [u32]) -> Verdict
     ensures { Walked network.now start distances.old distances.new (verdict_outcome result) }
 {
-    let read = read_network(network);
-    let verdict = read.verdict;
-    let Verdict::Accepted = verdict else {
-        return verdict;
+    let network = match Network::read(network) {
+        Ok(network) => network,
+        Err(r) => return Verdict::Refused(r),
     };
-    let n = read.n;
+    let n = network.node_count();
     if n <= start {
         return refused(41, 0);
     }
     if distances.len() < n {
         return refused(42, 0);
     }
-    inner::walk_from(network, start, distances);
+    inner::walk_from(&network, start, distances);
     Verdict::Accepted
 }

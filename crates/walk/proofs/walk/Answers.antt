@@ -1,37 +1,27 @@
 use native.Mathlib.Omega.{arith}
-use Rattle.rules.proofs.SoundNetworkLaws.{network_sound}
-use Rattle.records.proofs.NetworkLaws.{read_verdict, read_accepted, read_n}
+use mathlib.Core.Path.{◌≡◌, refl, sym}
+use Rattle.rules.specs.Network.{node_count}
 use Rattle.walk.proofs.EntryLaws.{reading_refused, refused_41, refused_42, filled}
 use Rattle.walk.proofs.walk.Goals as goal
+use Rattle.walk.proofs.walk.Goals.{After-node_count-n}
 
-pub returns-in_default : goal.returns-in_default
-returns-in_default c = reading_refused c.in_default.field-0 (read_verdict _ c.read_network-read.ensures) c.in_default.is
+pub returns-in-Err : goal.returns-in-Err
+returns-in-Err c = reading_refused _ c.in-Err.ensures.verdict refl
+
+-- The n that was read is that of the record.
+reads-n : (c : After-node_count-n) → c.node_count-n.result ≡ node_count c.args.network.now
+reads-n c = rw c.in-Ok.ensures.value at c.node_count-n.ensures.value
 
 pub returns-then-n-start : goal.returns-then-n-start
 returns-then-n-start c =
-    refused_41 (read_accepted _ c.read_network-read.ensures
-    c.in-Accepted.is) (read_n _ c.read_network-read.ensures
-    c.in-Accepted.is) c.refused.ensures (omega arith)
+    refused_41 (sym c.in-Ok.ensures.verdict) (reads-n (goal.at.returns-then-n-start c).After-node_count-n) c.refused.ensures (omega arith)
 
 pub returns-then-distances-n : goal.returns-then-distances-n
 returns-then-distances-n c =
-    refused_42 (read_accepted _ c.read_network-read.ensures c.in-Accepted.is)
-    (read_n _ c.read_network-read.ensures c.in-Accepted.is)
+    refused_42 (sym c.in-Ok.ensures.verdict) (reads-n (goal.at.returns-then-distances-n c).After-node_count-n)
     (omega arith) c.refused-then-distances-n.ensures (omega arith)
-
-pub walk_from-requires : goal.walk_from-requires
-walk_from-requires c =
-    let n = read_n _ c.read_network-read.ensures c.in-Accepted.is in (
-      omega arith,
-      record {
-        sound = network_sound _ (read_accepted _ c.read_network-read.ensures
-            c.in-Accepted.is);
-        places = omega arith;
-      },
-    )
 
 pub returns : goal.returns
 returns c =
-    filled (read_accepted _ c.read_network-read.ensures c.in-Accepted.is)
-    (read_n _ c.read_network-read.ensures c.in-Accepted.is) (omega (arith, c.if-n-start.false))
-    (omega (arith, c.if-distances-n.false)) c.walk_from.ensures
+    filled (sym c.in-Ok.ensures.verdict) (reads-n (goal.at.returns c).After-node_count-n)
+    (omega (arith, c.if-n-start.false)) (omega (arith, c.if-distances-n.false)) (rw c.in-Ok.ensures.value at c.walk_from.ensures)
