@@ -8,11 +8,11 @@ use lib.ListN.{get_or}
 use Rattle.rules.specs.Network.{node_count, walk}
 use Rattle.rules.specs.Walks.{Leads, Walk, no_distance, HoldsDistance}
 use Rattle.rules.specs.Answers.{Outcome, gives, Walked}
-use Rattle.rules.specs.declared.Verdict.TheVariants.{Accepted}
 use Rattle.rules.proofs.WalkLaws.{walk_along, walk_back, way_one, holds_distance_unique}
 use Rattle.rules.proofs.RoomLaws.{kept_unique}
 use Rattle.rules.proofs.AnswerLaws.{verdict_told_apart}
 use Rattle.walk.specs.Row.{Row}
+use Rattle.rules.specs.Checks.{Accepted}
 
 pub row_unique : {network : List ℕ} {start : ℕ} {before a b : List ℕ} → Row network start before a → Row network start before b → a ≡ b
 row_unique p q = kept_unique p.kept q.kept (λ v h. holds_distance_unique (p.holds v h) (q.holds v h))
