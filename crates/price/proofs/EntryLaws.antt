@@ -2,23 +2,19 @@
 -- tablet's 38).
 use Prim.Native.Nat.{ℕ}
 use mathlib.Core.Path.{◌≡◌, refl, sym, ◌∙◌}
-use mathlib.Core.Bool.{true, false}
+use mathlib.Core.Bool.{false}
 use mathlib.Core.List.{List, [], ◌∷◌, ◌++◌}
 use lib.ListN.{length}
-use Rattle.rules.specs.Checks.{Check, refuse, first_of}
-use Rattle.rules.specs.Network.{SoundNetwork, node_count}
-use Rattle.rules.specs.Request.{SoundValue, record_checks, request_verdict, request_value, request_of, rider_count_of}
+use Rattle.rules.specs.Checks.{Check, first_of, Verdict, Accepted}
+use Rattle.rules.specs.Network.{node_count, network_checks, network_verdict}
+use Rattle.rules.specs.Request.{record_checks, request_checks, request_value, rider_count_of}
 use Rattle.rules.specs.Routes.{Price, route_checks}
-use Rattle.rules.specs.Answers.{Outcome, gives, refuses, Pricing, refused, stranded, priced, price_checks, PricedRoute}
-use Rattle.rules.specs.declared.Refusal.{Refusal}
+use Rattle.rules.specs.Answers.{Outcome, gives, Pricing, refused, stranded, priced, price_checks, PricedRoute, refusal_outcome}
+use Rattle.rules.specs.declared.refusal.Refusal.{Refusal}
 use Rattle.rules.specs.declared.Request.{Request}
-use Rattle.rules.specs.declared.RequestRead.{RequestRead}
-use Rattle.rules.specs.declared.Verdict.{Verdict}
-use Rattle.rules.specs.declared.Verdict.TheVariants.{Accepted, Refused as NotAccepted}
 use Rattle.rules.proofs.Clash.{clash}
-use Rattle.rules.proofs.Order.{given, passed, front_refused, front_passed}
-use Rattle.rules.proofs.SoundRequestLaws.{records_sound, value_sound}
-use Rattle.records.proofs.RequestLaws.{request_verdict_read, request_accepted, read_value}
+use Rattle.rules.proofs.Order.{passed, front_passed}
+use Rattle.std.specs.Prelude.{Err}
 
 -- How pricing ends behind the records' checks and the check c.
 abbrev pub PricedBehind : List ℕ → List ℕ → List ℕ → Check → Outcome → List ℕ → Type 0
@@ -31,31 +27,21 @@ pub unwritten : {network request route before : List ℕ} {answer : Outcome}
     → PricedRoute network request route before before answer
 unwritten pricing = record { meetings = []; pricing = pricing; written = refl }
 
-module _ (network request : List ℕ) {read : RequestRead} (is : read ≡ request_of network request) where
-  pub read_sound : read.verdict ≡ Accepted → SoundNetwork network × SoundValue (node_count network) read.request
-  read_sound accepted =
-      let (sound, request_sound) = records_sound network request (request_accepted network request is accepted) in
-      (sound, rw (read_value network request is accepted) (value_sound _ request request_sound))
+pub unpriced : {network request route before : List ℕ} {r : Refusal} → first_of (price_checks network request route (length before)) ≡ Err r
+    → PricedRoute network request route before before (refusal_outcome r)
+unpriced {r = r} e = unwritten (refused r e refl refl)
 
-  module _ (route : List ℕ) (c : Check) where
-    pub read_refused : (r : Refusal) → read.verdict ≡ NotAccepted r → PricedBehind network request route c (refuses r.number r.place) []
-    unfolding request_verdict
-    read_refused r told =
-        refused r (front_refused (record_checks network request) _ r (sym (request_verdict_read network request is) ∙ told)) refl refl
-
-    module _ (accepted : read.verdict ≡ Accepted) where
-      past_records : first_of (record_checks network request ++ c ∷ route_checks network (request_value request) route)
-          ≡ first_of (c ∷ route_checks network (request_value request) route)
-      unfolding request_verdict
-      past_records = front_passed (record_checks network request) _ (request_accepted network request is accepted)
-
-      pub check_refused : c.applies ≡ true → PricedBehind network request route c (refuses c.number c.place) []
-      check_refused e = refused (refuse c.number c.place) (past_records ∙ given _ _ _ e) refl refl
-
-      pub check_passed : {answer : Outcome} {meetings : List ℕ} → c.applies ≡ false
-          → Pricing (first_of (route_checks network read.request route)) network read.request route answer meetings
-          → PricedBehind network request route c answer meetings
-      check_passed e pricing = rw (past_records ∙ passed _ _ _ e) (rw (read_value network request is accepted) at pricing)
+-- Past the records' checks and the check c it ends as pricing the route does.
+pub priced_behind : {network route meetings : List ℕ} {answer : Outcome} (request : List ℕ) (c : Check) {read : List ℕ} {q : Request}
+    → read ≡ network → q ≡ request_value request
+    → Accepted ≡ network_verdict network → Accepted ≡ first_of (request_checks (node_count read) request) → c.applies ≡ false
+    → Pricing (first_of (route_checks read q route)) read q route answer meetings
+    → PricedBehind network request route c answer meetings
+unfolding network_verdict
+priced_behind {network} {route} request c same value sound asked passes pricing =
+    let records : first_of (record_checks network request) ≡ Accepted = front_passed (network_checks network) _ (sym sound) ∙ sym (rw same at asked) in
+    rw (front_passed (record_checks network request) _ records ∙ passed c.fault c.place (route_checks network (request_value request) route) passes)
+    (rw (same, value) at pricing)
 
 -- A price comes once everything else is accepted, with a meeting position for each rider.
 pub priced_told : {v : Verdict} {network : List ℕ} {q : Request} {route : List ℕ} {price : ℕ} {meetings : List ℕ}

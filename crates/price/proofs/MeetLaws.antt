@@ -14,11 +14,11 @@ use Rattle.rules.specs.Request.{rider_weight_of, rider_count_of, bus_weight_of}
 use Rattle.rules.specs.Routes.{Meeting, Stranded, sum}
 use Rattle.rules.specs.Answers.{gives, refuses, Pricing, stranded, priced}
 use Rattle.rules.specs.declared.Request.{Request}
-use Rattle.rules.specs.declared.Verdict.TheVariants.{Accepted}
 use Rattle.rules.proofs.RiderLaws.{meeting_reaches}
 use Rattle.rules.proofs.PriceLaws.{sum_same}
 use Rattle.price.specs.Sound.{SoundRoute, driving_of}
 use Rattle.price.proofs.RouteLaws.{sum_more}
+use Rattle.rules.specs.Checks.{Accepted}
 
 -- The riders below j are met, and the price is that of the drive and of their walks.
 pub record MetBelow (network : List ℕ) (q : Request) (route : List ℕ) (j price : ℕ) (meetings : List ℕ) : Type 0 where

@@ -1,48 +1,24 @@
 -- A route's checks, link by link, and the route that passes them.
-use Prim.Native.Nat.{ℕ, zero, suc, ◌+◌, ◌≤◌, ◌<◌}
+use Prim.Native.Nat.{ℕ, zero, suc, ◌+◌, ◌<◌}
 use native.Mathlib.Omega.{arith}
 use native.Mathlib.Nat.{zero-add}
 use native.Mathlib.Numerals.{add-one}
-use mathlib.Core.Path.{◌≡◌, refl, ◌∙◌}
-use mathlib.Core.Logic.{◌≢◌}
-use mathlib.Core.List.{List, [], ◌∷◌, ◌++◌}
+use mathlib.Core.Path.{◌≡◌, refl}
+use mathlib.Core.List.{List, [], ◌∷◌}
 use lib.ListN.{length, get_or}
-use borrow.Author.Tests.{le-leb, lt-leb, lt-ltb, le-ltb, leb-false, ltb-false, eq-eqb, ne_eqb}
-use Rattle.rules.specs.Checks.{check, first_of, each, refuse, differ}
-use Rattle.rules.specs.Limits.{closed, longest_route}
-use Rattle.rules.specs.Network.{SoundNetwork, node_count, link_count, from, to, drive}
+use borrow.Author.Tests.{leb-false, ltb-false}
+use Rattle.rules.specs.Checks.{first_of, each, Accepted}
+use Rattle.rules.specs.Network.{SoundNetwork, node_count, to, drive}
 use Rattle.rules.specs.Request.{SoundValue}
 use Rattle.rules.specs.Walks.{Way, arrived, along}
 use Rattle.rules.specs.Routes.{Drivable, node_at, sum, driven_link_checks, route_link_checks, route_checks}
-use Rattle.rules.specs.declared.Refusal.{Refusal}
 use Rattle.rules.specs.declared.Request.{Request}
-use Rattle.rules.specs.declared.Verdict.TheVariants.{Accepted, Refused}
-use Rattle.rules.proofs.Order.{passed, Passed, passed_until, passed_all, front_refused, front_passed}
 use Rattle.rules.proofs.Order.{accepted_head, accepted_front, accepted_rest, accepted_each}
 use Rattle.rules.proofs.TestLaws.{same}
 use Rattle.price.specs.Sound.{SoundRoute, driving_of}
+use Rattle.price.specs.declared.drive.Drive.{Drive}
 
--- The refusals of one link, each number that is read with what it is read from.
-module _ (network : List ℕ) (stands k i : ℕ) {m : ℕ} (reads-m : m ≡ link_count network) where
-  pub link_33 : m ≤ k → first_of (driven_link_checks network stands k i) ≡ Refused (refuse 33 i)
-  unfolding first_of
-  link_33 wrong = rw (← reads-m) (simp (le-leb _ _ wrong))
-
-  module _ (exists : k < m) {d : ℕ} (reads-d : d ≡ drive network k) where
-    pub link_34 : closed ≤ d → first_of (driven_link_checks network stands k i) ≡ Refused (refuse 34 i)
-    unfolding first_of
-    link_34 wrong = rw (← reads-m, ← reads-d) (simp (lt-leb _ _ exists, le-leb _ _ wrong))
-
-    module _ (drivable : d < closed) {u : ℕ} (reads-u : u ≡ from network k) where
-      pub link_35 : u ≢ stands → first_of (driven_link_checks network stands k i) ≡ Refused (refuse 35 i)
-      unfolding first_of
-      link_35 wrong = rw (← reads-m, ← reads-d, ← reads-u) (simp (lt-leb _ _ exists, lt-leb _ _ drivable, ne_eqb _ _ wrong))
-
-      pub link_driven : u ≡ stands → first_of (driven_link_checks network stands k i) ≡ Accepted
-      unfolding first_of
-      link_driven right = rw (← reads-m, ← reads-d, ← reads-u) (simp (lt-leb _ _ exists, lt-leb _ _ drivable, eq-eqb _ _ right))
-
--- A link that passes them can be driven.
+-- A link that passes its checks can be driven.
 pub driven_link : (network : List ℕ) (stands k i : ℕ) → first_of (driven_link_checks network stands k i) ≡ Accepted
     → Drivable network k stands (to network k) (drive network k)
 driven_link network stands k i e =
@@ -83,40 +59,8 @@ drive_way network u (k ∷ route) links =
     (drive_way network (to network k) route (λ i h. links (suc i) (omega arith)))
     (sum_first (length route) (λ i. drive network (get_or (k ∷ route) i 0)))
 
--- The refusals of a route, in their order.
+-- A route that passes its checks is sound.
 module _ (network : List ℕ) (q : Request) (route : List ℕ) where
-  pub route_32 : longest_route < length route → first_of (route_checks network q route) ≡ Refused (refuse 32 0)
-  unfolding route_checks first_of
-  route_32 long = simp (lt-ltb _ _ long)
-
-  module _ (few : length route ≤ longest_route) where
-    past_32 : first_of (route_checks network q route)
-        ≡ first_of (each (route_link_checks network q route) (length route) 0
-        ++ check 36 0 (differ (node_at network q.source route (length route)) q.target) ∷ [])
-    unfolding route_checks
-    past_32 = passed 32 0 _ (le-ltb _ _ few)
-
-    -- The first i links have passed, and lead to `node`.
-    module _ (i : ℕ) (so : Passed (route_link_checks network q route) (length route) i) where
-      pub route_link : (r : Refusal) → i < length route → first_of (route_link_checks network q route i) ≡ Refused r
-          → first_of (route_checks network q route) ≡ Refused r
-      route_link r h e = past_32 ∙ front_refused _ _ r (passed_until _ _ i so r h e)
-
-      module _ (all : length route ≤ i) {node : ℕ} (stands : node ≡ node_at network q.source route i) where
-        past_links : first_of (route_checks network q route) ≡ first_of (check 36 0 (differ node q.target) ∷ [])
-        past_links =
-            let same : i ≡ length route = omega (arith, so.within) in
-            rw (stands, same) (past_32 ∙ front_passed (each (route_link_checks network q route) (length route) 0) _ (passed_all _ _ i so all))
-
-        pub route_36 : node ≢ q.target → first_of (route_checks network q route) ≡ Refused (refuse 36 0)
-        unfolding first_of
-        route_36 wrong = past_links ∙ simp (ne_eqb _ _ wrong)
-
-        pub route_driven : node ≡ q.target → first_of (route_checks network q route) ≡ Accepted
-        unfolding first_of
-        route_driven right = past_links ∙ simp (eq-eqb _ _ right)
-
-  -- A route that passes them is sound.
   pub route_sound : SoundNetwork network → SoundValue (node_count network) q → first_of (route_checks network q route) ≡ Accepted
       → SoundRoute network q route
   unfolding route_checks
@@ -131,3 +75,6 @@ module _ (network : List ℕ) (q : Request) (route : List ℕ) where
         few = ltb-false _ _ long;
         drives = rw ends at (drive_way network q.source route (λ i h. driven_link network _ _ i (rw zero-add at (links i h))));
       }
+
+pub drive_sound : (drive : Drive) → SoundRoute drive.job.now.network drive.job.now.request drive.links.now
+drive_sound drive = route_sound _ _ _ drive.job.now.sound drive.job.now.fits drive.passes

@@ -1,79 +1,62 @@
-// Riders: which position of a route is nearest to each of them.
+// Riders: which position of a drive is nearest to each of them.
 ghost use Rattle.std.specs.Prelude.{◌<◌, ◌≡◌};
+ghost use Rattle.rules.specs.Checks.{Accepted};
 ghost use Rattle.rules.specs.Request.{rider_count_of};
-ghost use Rattle.price.specs.Sound.{SoundRoute};
 ghost use Rattle.price.specs.Near.{Nearest, closer_of};
 ghost use Rattle.price.specs.Meetings.{Prices};
 
-use crate::route::{driving_cost, link_at};
-use records::inner::to;
-use rules::{MOST_NODES, MOST_RIDERS, NO_DISTANCE, Priced, Refusal, Request, Verdict};
+use crate::drive::Drive;
+use rules::{Fault, MOST_NODES, MOST_RIDERS, NO_DISTANCE, Refusal};
 use walk::inner::walk_from;
 
-// A position of a route and a rider's walking distance to it.
+// A position of a drive and a rider's walking distance to it.
 #[derive(Clone, Copy)]
 pub struct Spot {
     pub position: usize,
     pub distance: u32,
 }
 
-// A price or its refusal, and beside a price the riders' meeting positions.
+// A price, and the riders' meeting positions.
 #[derive(Clone, Copy)]
 pub struct RoutePrice {
-    pub answer: Priced,
+    pub price: u64,
     pub meetings: [u16; MOST_RIDERS],
 }
 
-// Prices a sound route: the price with the meeting positions, or refusal 37 at the lowest rider who can walk to no
-// position.
-pub fn meet_riders(network: &[u8], q: Request, route: &[u16]) -> RoutePrice
-    requires { SoundRoute network.now q route.now }
-    ensures { Prices Verdict.Accepted network.now q route.now result }
+// Prices a drive: the price with the meeting positions, or refusal 37 at the lowest rider who can walk to no position.
+pub fn meet_riders(drive: &Drive) -> Result<RoutePrice, Refusal>
+    ensures { Prices Accepted drive.now.job.now.network drive.now.job.now.request drive.now.links.now result }
 {
-    let weights = q.weights;
+    let job = drive.job;
+    let request = job.request;
     let mut meetings = [0u16; MOST_RIDERS];
-    let mut price = driving_cost(network, q, route);
-    let mut j = 0;
-    while j < q.rider_count {
-        let spot = nearest(network, q, j, route);
-        let distance = spot.distance;
-        if distance == NO_DISTANCE {
-            return RoutePrice {
-                answer: Priced::Refused(Refusal {
-                    number: 37,
-                    place: j,
-                }),
-                meetings,
-            };
+    let mut price = drive.cost();
+    for j in 0..request.rider_count {
+        let spot = nearest(drive, j);
+        if spot.distance == NO_DISTANCE {
+            return Err(Fault::NoWalk.at(j));
         }
         meetings[j] = spot.position as u16;
-        price += weights[j] * distance as u64;
-        j += 1;
+        price += request.weights[j] * spot.distance as u64;
     }
-    RoutePrice {
-        answer: Priced::Price(price),
-        meetings,
-    }
+    Ok(RoutePrice { price, meetings })
 }
 
 // The earliest position to which rider j walks least; its distance is none where rider j can walk to no position.
-pub fn nearest(network: &[u8], q: Request, j: usize, route: &[u16]) -> Spot
-    requires { (j < rider_count_of q) × SoundRoute network.now q route.now }
-    ensures { Nearest network.now q j route.now result }
+fn nearest(drive: &Drive, j: usize) -> Spot
+    requires { j < rider_count_of drive.now.job.now.request }
+    ensures { Nearest drive.now.job.now.network drive.now.job.now.request j drive.now.links.now result }
 {
-    let nodes = q.nodes;
+    let job = drive.job;
     let mut distances = [0u32; MOST_NODES];
-    walk_from(network, nodes[j], &mut distances);
-    let source = q.source;
+    walk_from(job.network, job.request.nodes[j], &mut distances);
     let mut spot = Spot {
         position: 0,
-        distance: distances[source],
+        distance: distances[job.request.source],
     };
-    let mut i = 0;
-    while i < route.len() {
-        let node = to(network, link_at(route, i));
+    for (i, &link) in drive.links.iter().enumerate() {
+        let node = job.network.to(link as usize);
         spot = closer(spot, i + 1, distances[node]);
-        i += 1;
     }
     spot
 }

@@ -73,6 +73,9 @@ none_applies : (b : Bool) (r : Refusal) {rest : Verdict} → cond b (Err r) rest
 none_applies true r e = clash (cc)
 none_applies false r e = (refl, e)
 
+pub check_passed : (b : Bool) (r : Refusal) {v : Verdict} → v ≡ cond b (Err r) Accepted → v ≡ Accepted → b ≡ false
+check_passed b r told passes = (none_applies b r (sym told ∙ passes)).0
+
 pub accepted_head : (c : Check) (rest : List Check) → first_of (c ∷ rest) ≡ Accepted → (c.applies ≡ false) × (first_of rest ≡ Accepted)
 unfolding first_of
 accepted_head c rest e = none_applies c.applies (refuse c.fault c.place) e

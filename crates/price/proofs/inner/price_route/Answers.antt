@@ -1,15 +1,14 @@
--- The route's refusals, and then the riders of a sound route.
-use mathlib.Core.Path.{refl, sym, ◌∙◌}
+use mathlib.Core.Path.{refl, sym}
+use Rattle.std.proofs.lemmas.Result.{err_from_is_err_and}
 use Rattle.rules.specs.Answers.{refused}
-use Rattle.price.proofs.RouteLaws.{route_sound}
 use Rattle.price.proofs.inner.price_route.Goals as goal
 
-pub returns-in-Refused : goal.returns-in-Refused
-returns-in-Refused c = refused _ (sym c.route_verdict-verdict.ensures ∙ c.in-Refused.is) refl refl
-
-pub meet_riders-requires : goal.meet_riders-requires
-meet_riders-requires c =
-    route_sound _ _ _ c.requires.0 c.requires.1 (sym c.route_verdict-verdict.ensures ∙ c.in_default.is)
+pub returns-in_err-read : goal.returns-in_err-read
+returns-in_err-read c =
+    let p = err_from_is_err_and c.from_residual.result c.from_residual.ensures.1 in
+    rw (p.1, p.2) (refused _ (sym c.in_err-read.ensures.verdict) refl refl)
 
 pub returns : goal.returns
-returns c = rw (sym c.route_verdict-verdict.ensures ∙ c.in_default.is) c.meet_riders.ensures
+returns c =
+    let (job, links) = c.in_ok-read.ensures.value in
+    rw (← c.in_ok-read.ensures.verdict) (rw (job, links) at c.meet_riders.ensures)
