@@ -27,7 +27,7 @@ impl<'a, 'b> Tables<'a, 'b> {
         ensures { TriesLowest self.now riders left v result }
     {
         let job = self.job;
-        let rider = u32::trailing_zeros(left);
+        let rider = left.trailing_zeros();
         let bit = rider_bit(rider);
         let behind = riders - bit;
         FirstMeeting {

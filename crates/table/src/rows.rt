@@ -11,7 +11,7 @@ use records::inner::Job;
 use spread::inner::spread_drives;
 
 // Fills row after row, so that a row is there before any larger rider set asks for it.
-pub fn fill_table<'a>(job: &'a Job<'a>, distances: &'a [u32], table: &mut [u64])
+pub fn fill_table(job: &Job, distances: &[u32], table: &mut [u64])
     requires { KnownDistances job.now.network job.now.request distances.now
         × (table_places (node_count job.now.network) (rider_count_of job.now.request) ≤ length table.old) }
     ensures { Table job.now.network job.now.request table.old table.new }
@@ -20,8 +20,8 @@ pub fn fill_table<'a>(job: &'a Job<'a>, distances: &'a [u32], table: &mut [u64])
     for riders in 0..rider_bit(job.request.rider_count as u32) {
         let (below, rest) = table.split_at_mut(riders as usize * n);
         let tables = Tables {
-            job,
-            distances,
+            job: &*job,
+            distances: &*distances,
             table: below,
         };
         fill_row(&tables, riders, &mut rest[..n]);

@@ -15,7 +15,7 @@ impl<'a, 'b> Tables<'a, 'b> {
         requires { (v < node_count self.now.job.now.network) × RowReady self.now riders }
         ensures { Least no_finish (Ends self.now.job.now.network self.now.job.now.request riders v) result }
     {
-        if u32::count_ones(riders) != 0 {
+        if riders.count_ones() != 0 {
             return self.least_meeting(riders, v);
         }
         let job = self.job;
@@ -32,7 +32,7 @@ impl<'a, 'b> Tables<'a, 'b> {
     {
         let mut least = NO_FINISH;
         let mut left = riders;
-        while u32::count_ones(left) != 0 {
+        while left.count_ones() != 0 {
             let next = self.first_meeting(riders, left, v);
             least = least.min(next.step.saturating_add(next.rest));
             left = next.left;
