@@ -6,6 +6,7 @@ ghost use Rattle.rules.specs.Rooms.{no_finish};
 ghost use Rattle.least.specs.Spread.{Spread};
 ghost use Rattle.finish.specs.Packed.{DriveLink, DriveArc};
 ghost use Rattle.finish.proofs.Rows.{drives_inside};
+ghost use Rattle.spread.specs.Relaxing.{Lowered};
 
 use crate::engine::{Links, spread};
 use records::inner::Network;
@@ -55,18 +56,20 @@ impl<'a> Links for Drives<'a> {
         if CLOSED <= cost {
             return false;
         }
-        let start = self.network.from(k);
-        let end = self.network.to(k);
         let step = packed_step(self.weight * cost);
-        let near = row[end];
-        let far = row[start];
-        if far <= near {
-            return false;
-        }
-        if far - near <= step {
-            return false;
-        }
-        row[start] = step + near;
-        true
+        shorten(row, self.network.to(k), self.network.from(k), step)
     }
+}
+
+// Makes the sum of a far node that of a near one and the step, if that is smaller: whether it is.
+fn shorten(row: &mut [u64], near: usize, far: usize, step: u64) -> bool
+    requires { (near < length row.old) × (far < length row.old) }
+    ensures { Lowered far near step row.old row.new result }
+{
+    let sum = step.saturating_add(row[near]);
+    if row[far] <= sum {
+        return false;
+    }
+    row[far] = sum;
+    true
 }

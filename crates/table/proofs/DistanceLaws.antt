@@ -1,59 +1,41 @@
--- Distances, one rider's row after the other.
+-- Distances: one rider's row more, and what the work table is filled from.
 use Prim.Native.Nat.{ℕ, ◌+◌, ◌*◌, ◌≤◌, ◌<◌}
-use mathlib.Core.Path.{◌≡◌, refl}
+use mathlib.Core.Path.{◌≡◌, ◌∙◌}
 use mathlib.Core.List.{List}
 use native.Mathlib.Omega.{arith}
-use lib.ListN.{length}
+use lib.ListN.{length, take, drop, take-append-drop}
+use borrow.Rule.Slice.PartMut.{put_mid}
+use Rattle.std.proofs.lemmas.List.{length-take-le}
 use Rattle.rules.specs.Network.{node_count}
 use Rattle.rules.specs.Request.{rider_node_of, rider_count_of}
 use Rattle.rules.specs.Routes.{RiderHolds}
-use Rattle.rules.specs.Rooms.{Distances}
+use Rattle.rules.specs.Rooms.{Distances, distance_places}
 use Rattle.rules.specs.declared.Request.{Request}
 use Rattle.rules.proofs.RiderLaws.{rider_held}
-use Rattle.rules.proofs.RoomLaws.{kept_none, kept_then, row_within}
-use Rattle.spread.specs.Lent.{LentRoom}
+use Rattle.rules.proofs.RoomLaws.{row_within}
 use Rattle.walk.specs.Row.{Row}
-use Rattle.table.specs.Filling.{Ready, KnownDistances, WalkedRows}
-use Rattle.table.proofs.RowLaws.{Lies, row_of, put_row, lent_row, row_start, row_kept, rows_put}
+use Rattle.table.specs.Filling.{KnownDistances, WalkedRows}
+use Rattle.table.proofs.RowLaws.{Turn, row_fits, rows_more}
 
-module _ {network : List ℕ} {q : Request} {before : List ℕ} where
-  pub walked_none : WalkedRows network q 0 before before
-  walked_none = record { within = omega arith; walks = λ i v h. absurd (omega arith); kept = kept_none }
+module _ {network : List ℕ} {q : Request} {before t : List ℕ} {j : ℕ} (h : j < rider_count_of q)
+    (places : distance_places (node_count network) (rider_count_of q) ≤ length before) (so : WalkedRows network q j before t) where
+  turn : Turn (RiderHolds network q) (node_count network) (rider_count_of q) j before (take (j * node_count network) t) (drop (j * node_count network) t)
+  turn =
+      record {
+        row = h;
+        places = places;
+        starts = length-take-le (j * node_count network) t (omega (arith, row_within (node_count network) h, so.kept.size));
+        so = rw (take-append-drop (j * node_count network) t) so;
+      }
 
-  module _ (ready : Ready network q before) {j : ℕ} {t : List ℕ} (so : WalkedRows network q j before t) where
-    -- the next row is there, for the number of nodes that was read
-    pub row_fits : {n : ℕ} → n ≡ node_count network → j < rider_count_of q → Lies (j * n) n (length t)
-    row_fits read h =
-        rw read
-        (record {
-          low = row_start (node_count network) j ready.sound.nodes (omega (arith, ready.request.riders));
-          within = omega (arith, ready.places, row_within (node_count network) h, so.kept.size);
-        })
+  -- What was walked from the rider's node is the rider's.
+  pub walked_more : {part : List ℕ} {n k : ℕ} → n ≡ node_count network → k ≡ n → Row network (rider_node_of q j) (take k (drop (j * n) t)) part
+      → WalkedRows network q (j + 1) before (put_mid (j * n) k t part)
+  walked_more {part} {n} {k} reads size row =
+      rw (size, reads) (rows_more turn part (row.kept.size ∙ rw (size, reads) (length-take-le _ _ (row_fits turn))) (λ v g. rider_held (row.holds v g)))
 
-    pub row_lent : j < rider_count_of q → LentRoom network (row_of (node_count network) j t)
-    row_lent h = lent_row t j ready.sound (row_fits refl h).within
-
-    -- one row more: what was walked from the rider's node is the rider's
-    pub walked_more : {part : List ℕ} → j < rider_count_of q → Row network (rider_node_of q j) (row_of (node_count network) j t) part
-        → WalkedRows network q (j + 1) before (put_row (node_count network) j t part)
-    walked_more {part} h row =
-        let fits = (row_fits refl h).within in
-        record {
-          within = omega arith;
-          walks =
-              rows_put (node_count network) j t part fits row.kept.size (RiderHolds network q) so.walks (λ v g. rider_held (row.holds v g));
-          kept = kept_then so.kept (row_kept (node_count network) j t part fits row.kept.size (row_within (node_count network) h));
-        }
-
-    -- the last row was filled
-    pub walked_all : rider_count_of q ≤ j → Distances network q before t
-    walked_all all = let e : j ≡ rider_count_of q = omega (arith, so.within) in record { holds = rw e at so.walks; kept = so.kept }
-
--- what the work table is filled from
-pub distances_walked : {network : List ℕ} {q : Request} {before after : List ℕ} → Ready network q before
-    → Distances network q before after → KnownDistances network q after
-distances_walked ready so =
-    record {
-      ready = record { sound = ready.sound; request = ready.request; places = omega (arith, so.kept.size, ready.places) };
-      walks = so.holds;
-    }
+pub distances_walked : {network : List ℕ} {q : Request} {before after : List ℕ}
+    → distance_places (node_count network) (rider_count_of q) ≤ length before
+    → Distances network q before after
+    → KnownDistances network q after
+distances_walked places so = record { places = omega (arith, so.kept.size); walks = so.holds }

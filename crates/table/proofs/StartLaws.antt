@@ -16,10 +16,12 @@ use Rattle.rules.specs.declared.Request.{Request}
 use Rattle.least.specs.Least.{Least}
 use Rattle.finish.specs.Packed.{Packed, Ends}
 use Rattle.finish.specs.Rows.{MetSeen}
-use Rattle.finish.proofs.Sets.{has_below, somebody, nobody_empty, nobody_has, without_less, subset_all, subset_less}
-use Rattle.finish.proofs.Rows.{arrived_least, outside_more, none_seen, all_seen, rider_reaches, rider_strays}
-use Rattle.table.specs.Filling.{RowReady, Seeing, value_at}
-use Rattle.table.specs.Meetings.{meeting_step, meeting_at, Tries}
+use Rattle.finish.proofs.Sets.{nobody_empty, nobody_has, without_less, subset_less}
+use Rattle.finish.proofs.Rows.{arrived_least, outside_more, all_seen, rider_reaches, rider_strays}
+use Rattle.table.specs.Filling.{RowReady, Seeing}
+use Rattle.table.specs.declared.tables.Tables.{Tables}
+use Rattle.table.specs.Meetings.{meeting_step, TriesLowest}
+use Rattle.table.specs.declared.meetings.FirstMeeting.{FirstMeeting}
 use Rattle.table.proofs.MeetingLaws.{cannot_meet, can_meet}
 
 -- Rider j, who walks to v or cannot, is seen too.
@@ -45,33 +47,24 @@ pub arrived : {network : List ℕ} {q : Request} {R v value : ℕ} → R < 2 ^ r
     → (v ≢ q.target → value ≡ no_finish) → Least no_finish (Ends network q R v) value
 arrived {q = q} {R} small none here there = rw (nobody_empty (rider_count_of q) R small none) (arrived_least here there)
 
-module _ {network : List ℕ} {q : Request} {distances table : List ℕ} {R v : ℕ} (room : RowReady network q distances R table)
-    (h : v < node_count network) where
-  pub seeing_none : Seeing network q R v R no_finish
-  seeing_none = record { of = subset_all; least = none_seen (λ j has out. out has) }
-
-  module _ {left least : ℕ} (so : Seeing network q R v left least) where
-    pub seeing_tries : ones left ≢ 0 → Tries network q distances table R left v
-    seeing_tries some =
-        record {
-          ready = room.walked.ready;
-          places = room.places;
-          row = room.row;
-          node = h;
-          of = so.of;
-          some = somebody left some;
-        }
-
-    pub seeing_more : (j : ℕ) → Has left j
-        → Seeing network q R v (without left j) (min least (meeting_at network q distances j v + value_at network table (without R j) v))
-    seeing_more j has =
+module _ {tables : Tables} {R v : ℕ} (ready : RowReady tables R) (h : v < node_count tables.job.now.network) where
+  module _ {left least : ℕ} (so : Seeing tables.job.now.network tables.job.now.request R v left least) where
+    -- the lowest rider left is seen too
+    pub seeing_more : {next : FirstMeeting} → TriesLowest tables R left v next
+        → Seeing tables.job.now.network tables.job.now.request R v next.left (min least (min (next.step + next.rest) no_finish))
+    seeing_more {next} tries =
+        let j = next.rider in
+        let has = tries.lowest.has in
         let met : Has R j = so.of.of j has in
-        let walks = room.walked.walks j v (has_below R j (rider_count_of q) room.row met) h in
-        let rest = room.below (without R j) v (without_less R j met) h in
-        record {
+        let walks = ready.walks j v tries.below h in
+        let behind = ready.below (without R j) v (without_less R j met) h in
+        let same : min least (min (next.step + next.rest) no_finish) ≡ min least (next.step + next.rest) = omega (arith, so.least.capped) in
+        rw (tries.leaves, same, tries.step, tries.rest)
+        (record {
           of = subset_less j has so.of;
-          least = rider_seen j (outside_more left j has) room.walked.ready.sound h met walks rest so.least;
-        }
+          least = rider_seen j (outside_more left j has) tables.job.now.sound h met walks behind so.least;
+        })
 
-  pub seeing_all : {left least : ℕ} → 0 < R → ones left ≡ 0 → Seeing network q R v left least → Least no_finish (Ends network q R v) least
+  pub seeing_all : {left least : ℕ} → 0 < R → ones left ≡ 0 → Seeing tables.job.now.network tables.job.now.request R v left least
+      → Least no_finish (Ends tables.job.now.network tables.job.now.request R v) least
   seeing_all {left} some nobody-left so = all_seen some (λ j has. nobody_has left j nobody-left) so.least

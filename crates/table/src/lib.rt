@@ -7,3 +7,4 @@ mod meetings;
 mod places;
 mod rows;
 mod starts;
+mod tables;

@@ -1,34 +1,23 @@
-use Prim.Native.Nat.{◌*◌}
+use Prim.Native.Nat.{ℕ, ◌<◌}
 use native.Mathlib.Omega.{arith}
-use lib.ListN.{length}
-use Rattle.table.proofs.TableLaws.{row_there, row_lent, row_filled}
-use Rattle.table.proofs.RowLaws.{Lies}
+use lib.ListN.{get_or}
+use Rattle.rules.specs.Network.{node_count}
+use Rattle.rules.specs.Rooms.{no_finish}
+use Rattle.least.specs.Least.{Least}
+use Rattle.finish.specs.Packed.{Ends}
+use Rattle.finish.proofs.Rows.{row_least}
+use Rattle.table.proofs.TableLaws.{below_set}
 use Rattle.table.proofs.rows.fill_row.Goals as goal
-use Rattle.table.proofs.rows.fill_row.Goals.{After-node_count-n}
 
-there : (c : After-node_count-n)
-    → Lies (c.args.riders * c.node_count-n.result) c.node_count-n.result (length c.start_row.new.table)
-there c =
-    rw c.node_count-n.ensures.value (row_there c.requires c.start_row.ensures)
-
-pub overflow_mul-a : goal.overflow_mul-a
-overflow_mul-a c = omega (arith, there (goal.at.overflow_mul-a c).After-node_count-n)
-
-pub overflow_add-b : goal.overflow_add-b
-overflow_add-b c = omega (arith, there (goal.at.overflow_add-b c).After-node_count-n)
-
-pub offset_bounds-table-a : goal.offset_bounds-table-a
-offset_bounds-table-a c = omega (arith, there (goal.at.offset_bounds-table-a c).After-node_count-n)
-
-pub slice_bounds-spread_drives-end : goal.slice_bounds-spread_drives-end
-slice_bounds-spread_drives-end c = (there (goal.at.slice_bounds-spread_drives-end c).After-node_count-n).within
-
-pub spread_drives-requires : goal.spread_drives-requires
-spread_drives-requires c =
-    rw c.node_count-n.ensures.value (row_lent c.requires c.start_row.ensures)
+pub loop-v-preserved : goal.loop-v-preserved
+loop-v-preserved c =
+    let job = c.args.tables.now.job.now in
+    below_set (λ (u x : ℕ). Least no_finish (Ends job.network job.request c.args.riders u) x) c.loop-v.row c.loop-v.v
+    (omega arith) c.loop-v.invariant c.start_value.ensures
 
 pub returns : goal.returns
 returns c =
-    rw c.node_count-n.ensures.value
-    (row_filled c.requires c.start_row.ensures
-    (rw c.node_count-n.ensures.value at c.spread_drives.ensures))
+    let job = c.args.tables.now.job.now in
+    let starts : (u : ℕ) → u < node_count job.network → Least no_finish (Ends job.network job.request c.args.riders u) (get_or c.loop-v.row u 0) =
+    λ u h. c.loop-v.invariant u (omega arith) in
+    rw (← c.job.view_is) (λ v h. row_least c.job.inside.network.now.sound (rw (← c.job.view_is) at starts) c.spread_drives.ensures h)

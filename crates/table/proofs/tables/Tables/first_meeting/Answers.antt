@@ -1,15 +1,12 @@
 -- The lowest rider that is left is a rider of the request, so its bit can be taken out of both sets.
 use native.Mathlib.Omega.{arith}
 use lib.Count.{count_trailing_zeros}
-use Rattle.table.proofs.MeetingLaws.{Candidate, candidate, value_there}
-use Rattle.table.proofs.meetings.first_meeting.Goals as goal
-use Rattle.table.proofs.meetings.first_meeting.Goals.{After-rider_bit-bit}
-
-pub rider_bit-bit-requires : goal.rider_bit-bit-requires
-rider_bit-bit-requires c = omega (arith, candidate c.requires)
+use Rattle.table.proofs.MeetingLaws.{Candidate, candidate}
+use Rattle.table.proofs.tables.Tables.first_meeting.Goals as goal
+use Rattle.table.proofs.tables.Tables.first_meeting.Goals.{After-rider_bit-bit}
 
 who : (c : After-rider_bit-bit) →
-    Candidate c.args.q c.args.riders c.args.left (count_trailing_zeros 32 c.args.left)
+    Candidate c.args.self.now.job.now.request c.args.riders c.args.left (count_trailing_zeros 32 c.args.left)
 who c = candidate c.requires
 
 pub overflow_sub-behind : goal.overflow_sub-behind
@@ -18,17 +15,8 @@ overflow_sub-behind c = omega (arith, who (goal.at.overflow_sub-behind c).After-
 pub overflow_sub-result : goal.overflow_sub-result
 overflow_sub-result c = omega (arith, who (goal.at.overflow_sub-result c).After-rider_bit-bit, c.rider_bit-bit.ensures)
 
-pub overflow_cast-rider : goal.overflow_cast-rider
-overflow_cast-rider c = omega (arith, who (goal.at.overflow_cast-rider c).After-rider_bit-bit)
-
 pub meeting_step-requires : goal.meeting_step-requires
-meeting_step-requires c =
-    ((who (goal.at.meeting_step-requires c).After-rider_bit-bit).below, c.requires.node, c.requires.ready)
-
-pub value-requires : goal.value-requires
-value-requires c =
-    let tries = c.requires in
-    value_there tries.ready.sound tries.ready.request.riders tries.places (omega (arith, tries.row)) tries.node
+meeting_step-requires c = ((who (goal.at.meeting_step-requires c).After-rider_bit-bit).below, c.requires.node)
 
 pub returns : goal.returns
 returns c =
@@ -40,5 +28,5 @@ returns c =
       leaves = cc (bit);
       still = cc (bit);
       step = c.meeting_step.ensures;
-      rest = cc (bit, c.value.ensures);
+      rest = rw (← c.job.view_is) (cc (bit, c.value.ensures));
     }
