@@ -8,18 +8,20 @@ use mathlib.Core.List.{List, [], ◌∷◌}
 use lib.ListN.{length}
 use borrow.Author.Tests.{ne_eqb}
 use Rattle.rules.specs.Limits.{first_refusal}
-use Rattle.rules.specs.Request.{request_verdict, request_of}
+use Rattle.rules.specs.Request.{record_checks, request_verdict}
+use Rattle.rules.specs.Checks.{number_of}
 use Rattle.rules.specs.Answers.{gives, refuses, refused, stranded, priced, Tablet, tablet_number, route_of}
-use Rattle.rules.specs.declared.Verdict.TheVariants.{Accepted}
 use Rattle.rules.proofs.AnswerLaws.{tablet_unique}
 use Rattle.price.proofs.Bounds.{pricing_bounded}
-use Rattle.price.proofs.EntryLaws.{check_refused}
+use Rattle.rules.proofs.Order.{given, front_passed}
+use Rattle.rules.specs.declared.refusal.Fault.TheVariants.{OddRoute}
+use Rattle.rules.specs.Checks.{Accepted}
 
 module _ {network request bytes : List ℕ} {number : ℕ} (so : Tablet network request bytes number) where
   -- The answer is a price or a refusal.
   price_or_refusal : ((price : ℕ) × (so.answer ≡ gives (price ∷ []))) ⊎ ((kind place : ℕ) × (so.answer ≡ refuses kind place))
   price_or_refusal = elim so.priced.pricing [
-    | refused r v e m ↦ inr (r.number, r.place, e)
+    | refused r v e m ↦ inr (number_of r.fault, r.place, e)
     | stranded j v h s l e m ↦ inr (37, j, e)
     | priced price v p z e ↦ inl (price, e)
   ]
@@ -54,11 +56,11 @@ module _ {network request bytes : List ℕ} {number : ℕ} (so : Tablet network 
 
   -- An odd number of route bytes is 38, and not 32, however many links they are.
   pub odd_before_long : request_verdict network request ≡ Accepted → length bytes % 2 ≢ 0 → number ≡ first_refusal + 38
-  unfolding request_of
+  unfolding request_verdict
   odd_before_long accepted odd =
       tablet_unique so
       (record {
         answer = refuses 38 0;
-        priced = record { meetings = []; pricing = check_refused network request refl (route_of bytes) _ accepted (ap not (ne_eqb _ _ odd)) };
+        priced = record { meetings = []; pricing = refused _ (front_passed (record_checks network request) _ accepted ∙ given OddRoute 0 _ (ap not (ne_eqb _ _ odd))) refl refl };
         tells = refl;
       })

@@ -3,13 +3,14 @@ use Prim.Native.Nat.{ℕ, zero, suc, ◌+◌, ◌*◌, ◌/◌, ◌<◌}
 use native.Mathlib.Omega.{arith}
 use native.Mathlib.Nat.{zero-add, add-zero}
 use mathlib.Core.Path.{◌≡◌, refl, sym, ◌∙◌, ap}
-use mathlib.Core.List.{List}
-use lib.ListN.{length, get_or, take}
-use lib.Seq.{take_at}
+use mathlib.Core.List.{List, []}
+use lib.ListN.{length, get_or}
+use lib.Seq.{ext_get_or}
+use Rattle.std.specs.Prelude.{Err}
 use Rattle.rules.specs.Numbers.{two}
-use Rattle.rules.specs.Rooms.{WrittenTo}
-use Rattle.rules.specs.Answers.{links_from, route_of}
-use Rattle.rules.proofs.WritingLaws.{written_all}
+use Rattle.rules.specs.Checks.{first_of}
+use Rattle.rules.specs.Answers.{links_from, route_of, refused, refusal_outcome, tablet_checks, TabletPriced}
+use Rattle.rules.specs.declared.refusal.Refusal.{Refusal}
 
 links_size : (bytes : List ℕ) (count first : ℕ) → length (links_from bytes count first) ≡ count
 unfolding links_from
@@ -28,10 +29,15 @@ pub route_size : (bytes : List ℕ) → length (route_of bytes) ≡ length bytes
 unfolding route_of
 route_size bytes = links_size bytes (length bytes / 2) 0
 
--- The array's first links are the route.
-pub decoded_route : (bytes : List ℕ) {before after : List ℕ} → WrittenTo (λ i. two bytes (2 * i)) (length bytes / 2) before after
-    → take (length bytes / 2) after ≡ route_of bytes
+-- Links that are the numbers of all pairs of bytes are the route.
+pub decoded_route : (bytes : List ℕ) {links : List ℕ} → length links ≡ length bytes / 2
+    → ((i : ℕ) → i < length links → get_or links i 0 ≡ two bytes (2 * i)) → links ≡ route_of bytes
 unfolding route_of
-decoded_route bytes so =
-    let route = written_all (route_of bytes) so (route_size bytes) (λ i h. sym (links_at bytes _ 0 i h ∙ rw zero-add)) in
-    rw route (take_at _ _ _ (route_size bytes))
+decoded_route bytes {links} size same =
+    ext_get_or 0 links (route_of bytes) (size ∙ sym (route_size bytes))
+    (λ i h. same i h ∙ sym (links_at bytes _ 0 i (omega (arith, size)) ∙ rw zero-add))
+
+-- A refusal comes without meeting positions.
+pub unpriced : {network request bytes : List ℕ} {r : Refusal} → first_of (tablet_checks network request bytes) ≡ Err r
+    → TabletPriced network request bytes (refusal_outcome r)
+unpriced {r = r} e = record { meetings = []; pricing = refused r e refl refl }

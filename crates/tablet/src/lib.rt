@@ -3,12 +3,13 @@
 
 mod route;
 
-ghost use Rattle.rules.specs.Answers.{priced_outcome, Tablet, TabletPriced};
+ghost use Rattle.rules.specs.Answers.{number_outcome, Tablet, TabletPriced};
 
 use price::inner::price_route;
-use records::read_request;
+use records::inner::Network;
 use route::decode;
-use rules::{FIRST_REFUSAL, LONGEST_ROUTE, Priced, Refusal, Verdict};
+use rules::checks::check;
+use rules::{FIRST_REFUSAL, Fault, LONGEST_ROUTE, Refusal};
 
 // Prices a route whose link numbers come as bytes, the high one first: gives the price, or FIRST_REFUSAL plus a refusal's
 // number.
@@ -16,40 +17,25 @@ pub fn tivelgor_tablet_price(network: &[u8], request: &[u8], route: &[u8]) -> u6
     ensures { Tablet network.now request.now route.now result }
 {
     let answer = tablet_answer(network, request, route);
-    let Priced::Price(price) = answer else {
-        let Priced::Refused(r) = answer else {
-            // An answer is one of the two, so this is never taken.
-            return 0;
-        };
-        return FIRST_REFUSAL + r.number as u64;
+    let Ok(price) = answer else {
+        return FIRST_REFUSAL + answer.unwrap_err().fault.number() as u64;
     };
     price
 }
 
 // The price, or the refusal of the records, 38, or 32 to 37.
-fn tablet_answer(network: &[u8], request: &[u8], route: &[u8]) -> Priced
-    ensures { TabletPriced network.now request.now route.now (priced_outcome result) }
+#[tactic(auto, using(rules::proofs::Order::in_order, crate::proofs::RouteLaws::unpriced, crate::proofs::RouteLaws::route_size), unfolding(rules::specs::Checks::first_of, rules::specs::Network::network_verdict, rules::specs::Routes::route_checks))]
+fn tablet_answer(network: &[u8], request: &[u8], route: &[u8]) -> Result<u64, Refusal>
+    ensures { TabletPriced network.now request.now route.now (number_outcome result) }
 {
-    let read = read_request(network, request);
-    let verdict = read.verdict;
-    if let Verdict::Refused(r) = verdict {
-        return Priced::Refused(r);
-    }
+    let network = Network::read(network)?;
+    let request = network.read_request(request)?;
     let count = route.len() / 2;
-    if route.len() % 2 != 0 {
-        return Priced::Refused(Refusal {
-            number: 38,
-            place: 0,
-        });
-    }
-    if LONGEST_ROUTE < count {
-        return Priced::Refused(Refusal {
-            number: 32,
-            place: 0,
-        });
-    }
-    let mut links = [0u16; LONGEST_ROUTE];
-    decode(route, &mut links, count);
-    let priced = price_route(network, read.request, &links[0..count]);
-    priced.answer
+    check(route.len() % 2 != 0, Fault::OddRoute, 0)?;
+    check(LONGEST_ROUTE < count, Fault::LongRoute, 0)?;
+    let mut room = [0u16; LONGEST_ROUTE];
+    let links = &mut room[..count];
+    decode(route, links);
+    let priced = price_route(&network, request, links)?;
+    Ok(priced.price)
 }

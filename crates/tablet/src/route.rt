@@ -1,18 +1,15 @@
 // A route as bytes.
-ghost use Rattle.std.specs.Prelude.{◌*◌, ◌≤◌, length};
-ghost use Rattle.rules.specs.Numbers;
-ghost use Rattle.rules.specs.Rooms.{WrittenTo};
+ghost use Rattle.std.specs.Prelude.{◌/◌, ◌≡◌, length};
+ghost use Rattle.rules.specs.Answers.{route_of};
 
 use records::inner::two;
 
-// Puts the link numbers of the first `count` pairs of bytes at the start of `links`.
-pub fn decode(bytes: &[u8], links: &mut [u16], count: usize)
-    requires { (2 * count ≤ length bytes.now) × (count ≤ length links.old) }
-    ensures { WrittenTo (λ i. Numbers.two bytes.now (2 * i)) count links.old links.new }
+// Puts the link numbers of all pairs of bytes into `links`.
+pub fn decode(bytes: &[u8], links: &mut [u16])
+    requires { length links.old ≡ length bytes.now / 2 }
+    ensures { links.new ≡ route_of bytes.now }
 {
-    let mut i = 0;
-    while i < count {
-        links[i] = two(bytes, 2 * i) as u16;
-        i += 1;
+    for (i, link) in links.iter_mut().enumerate() {
+        *link = two(bytes, 2 * i) as u16;
     }
 }
