@@ -4,18 +4,16 @@ use native.Mathlib.Omega.{arith}
 use mathlib.Core.Path.{◌≡◌, refl}
 use mathlib.Core.List.{List, [], ◌∷◌}
 use lib.ListN.{length}
-use Rattle.rules.specs.Checks.{Check, first_of}
+use Rattle.rules.specs.Checks.{Check, first_of, Verdict, Accepted}
 use Rattle.rules.specs.Limits.{most_nodes, most_links, step_range}
 use Rattle.rules.specs.Network.{node_count, network_verdict, network_of, SoundNetwork}
 use Rattle.rules.specs.Request.{record_checks, request_verdict, request_of, request_value, SoundValue}
 use Rattle.rules.specs.Rooms.{Lent}
 use Rattle.rules.specs.Answers.{Outcome, gives, refuses, outcome_of, network_outcome, request_outcome, walk_checks, Walked, refused, stranded}
 use Rattle.rules.specs.Answers.{priced, PricedRoute, hopeless, planned, Searched}
-use Rattle.rules.specs.declared.Refusal.{Refusal}
+use Rattle.rules.specs.declared.refusal.Refusal.{Refusal}
 use Rattle.rules.specs.declared.NetworkRead.{NetworkRead}
 use Rattle.rules.specs.declared.RequestRead.{RequestRead}
-use Rattle.rules.specs.declared.Verdict.{Verdict}
-use Rattle.rules.specs.declared.Verdict.TheVariants.{Accepted, Refused as NotAccepted}
 use Rattle.rules.proofs.Clash.{clash}
 use Rattle.rules.proofs.Order.{accepted_front}
 use Rattle.rules.specs.Writing.{Writing}
@@ -26,6 +24,7 @@ use Rattle.finish.specs.Short.{most_cost}
 use Rattle.finish.proofs.Bounds.{right_plan_bounded}
 use Rattle.desk.specs.Numbers.{short_range, RefusesSmall}
 use Rattle.desk.proofs.Places.{walk_small, price_small}
+use Rattle.std.specs.Prelude.{Ok, Err}
 
 gives_small : (values : List ℕ) → RefusesSmall (gives values)
 gives_small values = record { small = λ number place e. clash (cc) }
@@ -39,10 +38,10 @@ refuses_small {n} {p} h g =
           (omega arith, omega arith);
     }
 
-verdict_small : (verdict : Verdict) (values : List ℕ) → ((r : Refusal) → verdict ≡ NotAccepted r → Small short_range r)
+verdict_small : (verdict : Verdict) (values : List ℕ) → ((r : Refusal) → verdict ≡ Err r → Small short_range r)
     → RefusesSmall (outcome_of verdict values)
-verdict_small Accepted values small = gives_small values
-verdict_small (NotAccepted r) values small = refuses_small (small r refl).number (small r refl).place
+verdict_small (Ok _) values small = gives_small values
+verdict_small (Err r) values small = refuses_small (small r refl).number (small r refl).place
 
 -- ---- reading
 module _ (s : List ℕ) {read : NetworkRead} (is : read ≡ network_of s) where

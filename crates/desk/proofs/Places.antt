@@ -11,7 +11,7 @@ use Rattle.rules.specs.Request.{record_checks}
 use Rattle.rules.specs.Routes.{route_link_checks, route_checks}
 use Rattle.rules.specs.Answers.{walk_checks, price_checks}
 use Rattle.rules.specs.Writing.{room_check, network_number_checks, network_write_checks, value_of, request_number_checks, request_write_checks, value_list_checks}
-use Rattle.rules.specs.declared.Refusal.{Refusal}
+use Rattle.rules.specs.declared.refusal.Refusal.{Refusal}
 use Rattle.rules.specs.declared.Request.{Request}
 use Rattle.rules.proofs.WriterLaws.{NumberRefused}
 use Rattle.rules.proofs.RoundTrips.{network_refusals, request_refusals}

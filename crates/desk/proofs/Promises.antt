@@ -10,8 +10,6 @@ use Rattle.rules.specs.Request.{request_of, rider_count_of}
 use Rattle.rules.specs.Rooms.{Lent}
 use Rattle.rules.specs.Answers.{Outcome, gives, refuses, network_outcome, request_outcome}
 use Rattle.rules.specs.Writing.{NetworkWritten, RequestWritten, value_of}
-use Rattle.rules.specs.declared.Verdict.{Verdict}
-use Rattle.rules.specs.declared.Verdict.TheVariants.{Accepted}
 use Rattle.rules.proofs.RoundTrips.{network_size_told, request_size, list_value, list_written}
 use Rattle.rules.proofs.AnswerLaws.{walked_unique, priced_route_unique, writing_unique, searched_unique}
 use Rattle.records.proofs.RequestLaws.{few_riders}
@@ -21,6 +19,7 @@ use Rattle.desk.specs.Numbers.{PlanTold}
 use Rattle.desk.proofs.Numbers.{network_refusal, network_sizes, request_refusal, walk_refusal, price_refusal}
 use Rattle.desk.proofs.Numbers.{write_refusal, plan_refusal, plan_bounded}
 use Rattle.desk.proofs.Places.{network_written_small, list_written_small}
+use Rattle.rules.specs.Checks.{Verdict, Accepted}
 
 -- ---- any two results agree
 pub network_told_unique : (s : List ℕ) {x y : ℕ} → x ≡ desk_number short_range (network_outcome (network_of s))

@@ -3,11 +3,10 @@ use Rattle.std.specs.Prelude.{ℕ, ◌+◌, ◌*◌, ◌<◌, ◌≡◌, List, [
 use Rattle.rules.specs.Limits.{first_refusal, step_range}
 use Rattle.rules.specs.Rooms.{Lent}
 use Rattle.rules.specs.Answers.{Outcome, gives, refuses, Walked, PricedRoute, Searched}
-use Rattle.rules.specs.Checks.{first_of}
+use Rattle.rules.specs.Checks.{first_of, Verdict}
 use Rattle.rules.specs.Network.{network_record}
 use Rattle.rules.specs.Request.{request_record}
 use Rattle.rules.specs.Writing.{Writing, network_write_checks, value_of, value_list_checks}
-use Rattle.rules.specs.declared.Verdict.{Verdict}
 
 -- m, the rider count and the number of a refusal are below this.
 abbrev pub short_range : ℕ

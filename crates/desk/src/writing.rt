@@ -1,10 +1,11 @@
 // Records written from plain numbers.
 ghost use Rattle.std.specs.Prelude.{◌≡◌, length};
-ghost use Rattle.rules.specs.Writing.{recorded_outcome, value_numbers, value_of};
+ghost use Rattle.rules.specs.Answers.{number_outcome};
+ghost use Rattle.rules.specs.Writing.{value_numbers, value_of};
 ghost use Rattle.desk.specs.Numbers.{short_range, desk_number, RefusesSmall, NetworkWriteTold, RequestWriteTold};
 
 use crate::refusal_told;
-use rules::{MOST_RIDERS, Recorded, Refusal, Request};
+use rules::{Fault, MOST_RIDERS, Refusal, Request};
 use writers::{write_network, write_request};
 
 // Where the nodes and the weights stand among the numbers of a request's value, and how many numbers there are.
@@ -26,10 +27,7 @@ pub fn tivelgor_write_request(n: usize, request: &[u64], room: &mut [u8]) -> u64
     ensures { RequestWriteTold n request.now room.old room.new result }
 {
     if request.len() != VALUE_NUMBERS {
-        return refusal_told(Refusal {
-            number: 81,
-            place: 0,
-        });
+        return refusal_told(Fault::GivenNumber.at(0));
     }
     length_told(write_request(n, value_of(request), room))
 }
@@ -41,11 +39,9 @@ fn value_of(numbers: &[u64]) -> Request
 {
     let mut nodes = [0usize; MOST_RIDERS];
     let mut weights = [0u64; MOST_RIDERS];
-    let mut j = 0;
-    while j < MOST_RIDERS {
+    for j in 0..MOST_RIDERS {
         nodes[j] = numbers[FIRST_NODE + j] as usize;
         weights[j] = numbers[FIRST_WEIGHT + j];
-        j += 1;
     }
     Request {
         source: numbers[0] as usize,
@@ -58,16 +54,12 @@ fn value_of(numbers: &[u64]) -> Request
 }
 
 // The answer of what writes a record.
-fn length_told(answer: Recorded) -> u64
-    requires { RefusesSmall (recorded_outcome answer) }
-    ensures { result ≡ desk_number short_range (recorded_outcome answer) }
+fn length_told(answer: Result<usize, Refusal>) -> u64
+    requires { RefusesSmall (number_outcome answer) }
+    ensures { result ≡ desk_number short_range (number_outcome answer) }
 {
-    let Recorded::Length(length) = answer else {
-        let Recorded::Refused(r) = answer else {
-            // An answer is one of the two, so this is never taken.
-            return 0;
-        };
-        return refusal_told(r);
-    };
-    length as u64
+    match answer {
+        Ok(length) => length as u64,
+        Err(refusal) => refusal_told(refusal),
+    }
 }

@@ -1,25 +1,17 @@
 use native.Mathlib.Omega.{arith}
-use mathlib.Core.Path.{◌∙◌, ap}
+use mathlib.Core.Path.{ap}
 use mathlib.Core.List.{[], ◌∷◌}
 use Rattle.rules.specs.Answers.{outcome_of}
 use Rattle.desk.proofs.Numbers.{network_refusal, network_sizes}
 use Rattle.desk.proofs.tivelgor_network.Goals as goal
 
 pub overflow_mul-result : goal.overflow_mul-result
-overflow_mul-result c = omega (arith, network_sizes _ c.read_network-read.ensures c.in_default.is)
+overflow_mul-result c = omega (arith, network_sizes _ c.read_network-read.ensures c.in-Ok.is)
 
 pub overflow_add-result : goal.overflow_add-result
-overflow_add-result c = omega (arith, network_sizes _ c.read_network-read.ensures c.in_default.is)
-
-pub returns-in_default : goal.returns-in_default
-returns-in_default c = rw (← c.read_network-read.ensures, c.in_default.is)
+overflow_add-result c = omega (arith, network_sizes _ c.read_network-read.ensures c.in-Ok.is)
 
 pub refusal_told-requires : goal.refusal_told-requires
 refusal_told-requires c =
     let read = c.read_network-read in
-    ((network_refusal _ read.ensures).small _ _ (ap (λ v. outcome_of v (read.result.n ∷ read.result.m ∷ [])) c.in-Refused.is)).1
-
-pub returns : goal.returns
-returns c =
-    let read = c.read_network-read in
-    c.refusal_told.ensures ∙ rw (← read.ensures, c.in-Refused.is)
+    ((network_refusal _ read.ensures).small _ _ (ap (λ v. outcome_of v (read.result.n ∷ read.result.m ∷ [])) c.in-Err.is)).1

@@ -4,6 +4,3 @@ use Rattle.desk.proofs.writing.tivelgor_write_network.Goals as goal
 
 pub length_told-requires : goal.length_told-requires
 length_told-requires c = write_refusal (network_written_small _ _ _) c.write_network.ensures
-
-pub returns : goal.returns
-returns c = record { answer = _; written = c.write_network.ensures; tells = c.length_told.ensures }

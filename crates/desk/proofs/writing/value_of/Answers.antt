@@ -8,14 +8,13 @@ use Rattle.desk.proofs.writing.value_of.Goals as goal
 
 pub loop-j-init : goal.loop-j-init
 unfolding seven_places
-loop-j-init c = (omega arith, refl, refl)
+loop-j-init c = (refl, refl)
 
 pub loop-j-preserved : goal.loop-j-preserved
 loop-j-preserved c =
     let at = c.loop-j in (
-      omega arith,
+      rw at.invariant.0 (place_more _ at.j (omega arith)),
       rw at.invariant.1 (place_more _ at.j (omega arith)),
-      rw at.invariant.2 (place_more _ at.j (omega arith)),
     )
 
 pub returns : goal.returns
@@ -23,4 +22,4 @@ unfolding value_of
 returns c =
     let end = c.loop-j in
     let all : end.j ≡ most_riders = omega arith in
-    rw (end.invariant.1, end.invariant.2, all)
+    rw (end.invariant.0, end.invariant.1, all)
