@@ -18,21 +18,19 @@ const NO_DISTANCE: u32 = 4294967295;
 
 const NO_FINISH: u64 = 18446744073709551615;
 
-// All that can be wrong has a number: first the refusal's number and its place, or 0 and the cost; then the number of
-// steps; then all places of the three rooms.
-const FIRST_DISTANCE: usize = 3;
+// All that can be wrong has a number: first what the search says; then all places of the three rooms.
+const SAID: usize = 3;
 
-const FIRST_FINISH: usize = 15;
+const FIRST_FINISH: usize = SAID + DISTANCES;
 
-const FIRST_STEP: usize = 145;
+const FIRST_STEP: usize = FIRST_FINISH + TABLE;
 
-const NUMBERS: usize = 161;
+const NUMBERS: usize = FIRST_STEP + MOST_STEPS;
 
-#[derive(Clone, Copy)]
+#[derive(Drop)]
 pub struct Answer {
-    refusal: u64,
-    beside: u64,
-    step_count: u64,
+    // the refusal's number and its place, or 0 and the cost; and the number of steps
+    said: [u64; SAID],
     distances: [u32; DISTANCES],
     table: [u64; TABLE],
     steps: [u16; MOST_STEPS],
@@ -54,11 +52,8 @@ pub fn searched(town: &Town) -> Result<Answer, AllocError> {
         &mut table,
         &mut steps,
     );
-    let (refusal, beside, step_count) = said(planned);
     Ok(Answer {
-        refusal,
-        beside,
-        step_count,
+        said: said(planned),
         distances,
         table,
         steps,
@@ -70,21 +65,20 @@ fn first(room: &[u8], count: usize) -> &[u8] {
     room.get(..count).unwrap_or(room)
 }
 
-fn said(planned: Planned) -> (u64, u64, u64) {
+fn said(planned: Planned) -> [u64; SAID] {
     match planned {
-        Planned::Plan { cost, count } => (0, cost, count as u64),
-        Planned::Refused(refusal) => (u64::from(refusal.number), refusal.place as u64, 0),
+        Planned::Plan { cost, count } => [0, cost, count as u64],
+        Planned::Refused(refusal) => [u64::from(refusal.number), refusal.place as u64, 0],
     }
 }
 
 // What the search is to answer and to leave, with the plan's steps in their room and the places behind them as they were.
 pub fn listed(survey: &Survey, plan: Option<Plan>) -> Answer {
     let town = &survey.town;
-    let steps = plan.as_ref().map_or(&[][..], |plan| plan.steps.as_slice());
+    let plan = plan.as_ref();
+    let steps = plan.map_or(&[][..], |plan| plan.steps.as_slice());
     Answer {
-        refusal: if plan.is_some() { 0 } else { 24 },
-        beside: plan.as_ref().map_or(0, |plan| plan.cost),
-        step_count: steps.len() as u64,
+        said: plan.map_or([24, 0, 0], |plan| [0, plan.cost, steps.len() as u64]),
         distances: array::from_fn(|i| listed_distance(survey, town.row_and_node(i))),
         table: array::from_fn(|i| listed_finish(survey, town.row_and_node(i))),
         steps: array::from_fn(|i| steps.get(i).copied().unwrap_or(MARK)),
@@ -115,10 +109,8 @@ fn packed(plan: &Plan) -> u64 {
 impl Answer {
     fn number(&self, i: usize) -> u64 {
         match i {
-            0 => self.refusal,
-            1 => self.beside,
-            2 => self.step_count,
-            FIRST_DISTANCE..FIRST_FINISH => u64::from(self.distances[i - FIRST_DISTANCE]),
+            0..SAID => self.said[i],
+            SAID..FIRST_FINISH => u64::from(self.distances[i - SAID]),
             FIRST_FINISH..FIRST_STEP => self.table[i - FIRST_FINISH],
             _ => u64::from(self.steps[(i - FIRST_STEP) % MOST_STEPS]),
         }

@@ -21,7 +21,7 @@ const LINKS: usize = 20;
 const NUMBERS: usize = 68;
 
 pub fn town(i: usize) -> Town {
-    let nodes = Dice { town: i, nodes: 1 }.from_one(0, 5);
+    let nodes = roll(i, 0, 5) + 1;
     let dice = Dice { town: i, nodes };
     Town {
         nodes,
@@ -45,7 +45,7 @@ impl Dice {
     fn riders(self) -> ArrayVec<Rider, MOST_RIDERS> {
         let most = u16::from(RIDERS_FOR[usize::from(self.nodes)]);
         let mut riders = ArrayVec::from(array::from_fn(|j| self.rider(j)));
-        riders.truncate(usize::from(self.roll(5, most + 1)));
+        riders.truncate(usize::from(roll(self.town, 5, most + 1)));
         riders
     }
 
@@ -61,7 +61,7 @@ impl Dice {
 
     fn links(self) -> ArrayVec<Link, MOST_LINKS> {
         let mut links = ArrayVec::from(array::from_fn(|k| self.link(k)));
-        links.truncate(usize::from(self.roll(1, 13)));
+        links.truncate(usize::from(roll(self.town, 1, 13)));
         links
     }
 
@@ -78,31 +78,29 @@ impl Dice {
     }
 
     fn node(self, number: usize) -> u16 {
-        self.roll(number, self.nodes)
+        roll(self.town, number, self.nodes)
     }
 
     fn cost(self, number: usize) -> u16 {
-        COSTS[usize::from(self.roll(number, 8))]
+        COSTS[usize::from(roll(self.town, number, 8))]
     }
 
-    // What the die of a number shows, whose sides are numbered from 1.
     fn from_one(self, number: usize, sides: u16) -> u16
         requires { (0 < sides) × (sides < 8) }
-        ensures { (0 < result) × (result ≤ sides) }
     {
-        self.roll(number, sides) + 1
+        roll(self.town, number, sides) + 1
     }
+}
 
-    // The same from 0.
-    fn roll(self, number: usize, sides: u16) -> u16
-        requires { 0 < sides }
-        ensures { result < sides }
-    {
-        let throw = self.town % 1000000 * NUMBERS + number % NUMBERS;
-        let once = mixed(throw + SEED);
-        let twice = mixed(once / 65536);
-        (twice / 65536 % usize::from(sides)) as u16
-    }
+// What the die of a town's number shows, with so many sides from 0 on.
+fn roll(town: usize, number: usize, sides: u16) -> u16
+    requires { 0 < sides }
+    ensures { result < sides }
+{
+    let throw = town % 1000000 * NUMBERS + number % NUMBERS;
+    let once = mixed(throw + SEED);
+    let twice = mixed(once / 65536);
+    (twice / 65536 % usize::from(sides)) as u16
 }
 
 fn mixed(x: usize) -> usize {

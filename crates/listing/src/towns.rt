@@ -11,7 +11,7 @@ pub const MOST_RIDERS: usize = 7;
 pub const MOST_LINKS: usize = 12;
 
 // Each link there, and back.
-const MOST_LEGS: usize = 24;
+const MOST_LEGS: usize = 2 * MOST_LINKS;
 
 // What a link costs for a use that it is closed to.
 const CLOSED: u16 = 65535;

@@ -6,6 +6,8 @@ use std::alloc::AllocError;
 use std::array;
 use writers::{write_network, write_request};
 
+const LINK_NUMBERS: usize = 4 * MOST_LINKS;
+
 // How long the records of a town may be.
 pub const NETWORK: usize = 105;
 
@@ -13,7 +15,7 @@ pub const REQUEST: usize = 30;
 
 // Writes the town's network, and gives the record's length, or 0 where it is refused.
 pub fn put_network(town: &Town, room: &mut [u8; NETWORK]) -> Result<usize, AllocError> {
-    let mut links: ArrayVec<u16, 48> = ArrayVec::new();
+    let mut links: ArrayVec<u16, LINK_NUMBERS> = ArrayVec::new();
     for link in &town.links {
         links.extend([link.from, link.to, link.drive, link.walk])?;
     }
