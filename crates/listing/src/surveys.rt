@@ -32,11 +32,8 @@ impl Survey {
         let walks = town.walks()?;
         let most = town.other_nodes();
         let mut distances = ArrayVec::new();
-        distances.extend(
-            town.riders
-                .iter()
-                .map(|rider| listed_distances(rider.node, &walks, most)),
-        )?;
+        let riders = town.riders.iter();
+        distances.extend(riders.map(|rider| listed_distances(rider.node, &walks, most)))?;
         Ok(Survey {
             town,
             drives,
@@ -44,7 +41,7 @@ impl Survey {
         })
     }
 
-    // Rider j's walking distance to a node.
+    // Rider j's walking distance to a node, if they can walk there.
     pub fn distance(&self, j: usize, node: u16) -> Option<u32> {
         *self.distances.get(j)?.0.get(usize::from(node))?
     }
@@ -104,7 +101,7 @@ impl Survey {
     }
 
     fn price(&self, drive: &Path, meetings: &[Meeting]) -> Option<u64> {
-        let bus = u64::from(self.town.bus_weight).checked_mul(u64::from(drive.cost()))?;
+        let bus = u64::from(self.town.bus_weight) * u64::from(drive.cost());
         meetings.iter().try_fold(bus, |price, met| {
             price.checked_add(u64::from(met.weight) * u64::from(met.distance))
         })

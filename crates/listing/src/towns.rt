@@ -53,6 +53,7 @@ pub struct Leg {
     pub cost: u16,
 }
 
+// To extend them fails where they are full, which those of no town are.
 pub type Legs = ArrayVec<Leg, MOST_LEGS>;
 
 impl Town {
