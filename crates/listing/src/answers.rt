@@ -73,16 +73,17 @@ fn said(planned: Planned) -> [u64; SAID] {
 }
 
 // What the search is to answer and to leave, with the plan's steps in their room and the places behind them as they were.
-pub fn listed(survey: &Survey, plan: Option<Plan>) -> Answer {
+pub fn listed(survey: &Survey, plan: Option<Plan>) -> Result<Answer, AllocError> {
     let town = &survey.town;
     let plan = plan.as_ref();
+    let table = array::try_from_fn(|i| listed_finish(survey, town.row_and_node(i)))?;
     let steps = plan.map_or(&[][..], |plan| plan.steps.as_slice());
-    Answer {
+    Ok(Answer {
         said: plan.map_or([24, 0, 0], |plan| [0, plan.cost, steps.len() as u64]),
         distances: array::from_fn(|i| listed_distance(survey, town.row_and_node(i))),
-        table: array::from_fn(|i| listed_finish(survey, town.row_and_node(i))),
+        table,
         steps: array::from_fn(|i| steps.get(i).copied().unwrap_or(MARK)),
-    }
+    })
 }
 
 fn listed_distance(survey: &Survey, (j, node): (usize, u16)) -> u32 {
@@ -92,12 +93,12 @@ fn listed_distance(survey: &Survey, (j, node): (usize, u16)) -> u32 {
     survey.distance(j, node).unwrap_or(NO_DISTANCE)
 }
 
-fn listed_finish(survey: &Survey, (riders, node): (usize, u16)) -> u64 {
+fn listed_finish(survey: &Survey, (riders, node): (usize, u16)) -> Result<u64, AllocError> {
     if survey.town.all_riders().0 < riders {
-        return u64::from(MARK);
+        return Ok(u64::from(MARK));
     }
-    let finish = survey.best_finish(RiderSet(riders), node);
-    finish.plan.map_or(NO_FINISH, |plan| packed(&plan))
+    let finish = survey.best_finish(RiderSet(riders), node)?;
+    Ok(finish.plan.map_or(NO_FINISH, |plan| packed(&plan)))
 }
 
 fn packed(plan: &Plan) -> u64 {

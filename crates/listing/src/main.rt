@@ -43,9 +43,9 @@ fn main(rt: HostRuntime) -> io::Result<()> {
 // What comes of town i, or None where the search and the listing differ.
 fn compared(rt: &impl Print, i: usize) -> io::Result<Option<Outcome>> {
     let survey = Survey::of(generator::town(i))?;
-    let best = survey.best_finish(survey.town.all_riders(), survey.town.source);
+    let best = survey.best_finish(survey.town.all_riders(), survey.town.source)?;
     let outcome = came_of(&best);
-    let listed = answers::listed(&survey, best.plan);
+    let listed = answers::listed(&survey, best.plan)?;
     let passes = answers::searched(&survey.town)?.passes(rt, i, &listed)?;
     Ok(passes.then_some(outcome))
 }

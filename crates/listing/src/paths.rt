@@ -3,6 +3,7 @@ ghost use Rattle.std.specs.Prelude.{◌≡◌};
 
 use crate::towns::Leg;
 use arrayvec::ArrayVec;
+use std::alloc::AllocError;
 
 const LONGEST: usize = 9;
 
@@ -29,19 +30,27 @@ impl Path {
         self.legs.iter().map(|leg| u32::from(leg.cost)).sum()
     }
 
-    // Shows the path, and then each that goes on from it by at most so many legs, in the order of a dictionary.
-    pub fn list<F: FnMut(&Path)>(&mut self, legs: &[Leg], most: usize, show: &mut F)
+    // Shows the path, and then each that goes on from it by at most so many legs, in the order of a dictionary. Fails where a
+    // path is too long to be held.
+    pub fn list<F: FnMut(&Path)>(
+        &mut self,
+        legs: &[Leg],
+        most: usize,
+        show: &mut F,
+    ) -> Result<(), AllocError>
         requires { (state : F) (path : _) → F.pre state path }
     {
         show(self);
         if most == 0 {
-            return;
+            return Ok(());
         }
         for leg in legs {
-            if leg.from == self.end() && self.legs.try_push(*leg).is_ok() {
-                self.list(legs, most - 1, show);
+            if leg.from == self.end() {
+                self.legs.extend(Some(*leg))?;
+                self.list(legs, most - 1, show)?;
                 self.legs.pop();
             }
         }
+        Ok(())
     }
 }

@@ -32,8 +32,9 @@ impl Survey {
         let walks = town.walks()?;
         let most = town.other_nodes();
         let mut distances = ArrayVec::new();
-        let riders = town.riders.iter();
-        distances.extend(riders.map(|rider| listed_distances(rider.node, &walks, most)))?;
+        for rider in &town.riders {
+            distances.extend(Some(listed_distances(rider.node, &walks, most)?))?;
+        }
         Ok(Survey {
             town,
             drives,
@@ -47,7 +48,7 @@ impl Survey {
     }
 
     // The best finish from a node that meets a set of riders.
-    pub fn best_finish(&self, riders: RiderSet, start: u16) -> Best {
+    pub fn best_finish(&self, riders: RiderSet, start: u16) -> Result<Best, AllocError> {
         let mut best = Best::default();
         let most = self.town.other_nodes() * (riders.count() + 1);
         Path::from(start).list(
@@ -58,8 +59,8 @@ impl Survey {
                     best.consider(plan);
                 }
             },
-        );
-        best
+        )?;
+        Ok(best)
     }
 
     // The finish of a drive, if it ends at the target and everybody can walk to it.
@@ -110,14 +111,14 @@ impl Survey {
 
 // The walking distances from a node. A shortest walk passes no node twice, so it has at most as many links as there are
 // other nodes.
-fn listed_distances(start: u16, walks: &[Leg], most: usize) -> Distances {
+fn listed_distances(start: u16, walks: &[Leg], most: usize) -> Result<Distances, AllocError> {
     let mut distances = Distances::default();
     Path::from(start).list(
         walks,
         most,
         &mut |walk| distances.lower(walk.end(), walk.cost()),
-    );
-    distances
+    )?;
+    Ok(distances)
 }
 
 impl Distances {
