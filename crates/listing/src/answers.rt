@@ -121,8 +121,8 @@ impl Answer {
     pub fn passes(&self, rt: &impl Print, town: usize, right: &Answer) -> io::Result<bool> {
         let wrong = (0..NUMBERS).find(|&i| self.number(i) != right.number(i));
         if let Some(i) = wrong {
-            let (got, not) = (self.number(i), right.number(i));
-            println!(rt; "town {town}, number {i}: got {got}, not {not}")?;
+            let (got, wanted) = (self.number(i), right.number(i));
+            println!(rt; "town {town}, number {i}: got {got}, not {wanted}")?;
         }
         Ok(wrong.is_none())
     }

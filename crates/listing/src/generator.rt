@@ -1,5 +1,5 @@
 // Small towns from a seed: few nodes, so that every drive can be listed, and few costs, so that many plans cost the same.
-ghost use Rattle.std.specs.Prelude.{◌<◌, ◌≤◌};
+ghost use Rattle.std.specs.Prelude.{◌<◌};
 
 use crate::towns::*;
 use arrayvec::ArrayVec;

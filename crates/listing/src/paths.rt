@@ -1,6 +1,4 @@
 // Lists the legs that follow each other, for the bus and for walkers alike.
-ghost use Rattle.std.specs.Prelude.{◌≡◌};
-
 use crate::towns::Leg;
 use arrayvec::ArrayVec;
 use std::alloc::AllocError;

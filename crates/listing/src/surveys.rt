@@ -50,6 +50,7 @@ impl Survey {
     // The best finish from a node that meets a set of riders.
     pub fn best_finish(&self, riders: RiderSet, start: u16) -> Result<Best, AllocError> {
         let mut best = Best::default();
+        // the most links of a right plan: so many as there are other nodes, behind the last meeting and before each
         let most = self.town.other_nodes() * (riders.count() + 1);
         Path::from(start).list(
             &self.drives,
