@@ -1,203 +1,129 @@
-// What the search answers to a row of numbers and leaves in the rooms, and whether that is right.
-use crate::rows::*;
+// What the search answers for a town and leaves in the rooms, and whether that is right.
+use crate::plans::{MOST_STEPS, Plan};
+use crate::surveys::Survey;
+use crate::towns::*;
 use crate::writing::*;
 use rules::Planned;
-use std::io;
+use std::alloc::AllocError;
+use std::{array, io};
 
 // The places that the rooms have, and what stands in each before the search.
-pub const DISTANCES: usize = 12;
+const DISTANCES: usize = 12;
 
-pub const TABLE: usize = 130;
+const TABLE: usize = 130;
 
-pub const STEPS: usize = 16;
+const MARK: u16 = 77;
 
-pub const MARK: usize = 77;
+const NO_DISTANCE: u32 = 4294967295;
 
-// Where the numbers of an answer stand: the refusal's number and its place, or 0 and the cost; the number of steps; then
-// all places of the three rooms.
-pub const FIRST_DISTANCE: usize = 3;
+const NO_FINISH: u64 = 18446744073709551615;
 
-pub const FIRST_STEP: usize = 145;
+// All that can be wrong has a number: first what the search says; then all places of the three rooms.
+const SAID: usize = 3;
 
-pub const ANSWER: usize = 161;
+const FIRST_FINISH: usize = SAID + DISTANCES;
 
-// No distance, as its place holds it; also no cost.
-pub const NONE: usize = 4294967295;
+const FIRST_STEP: usize = FIRST_FINISH + TABLE;
 
-const NO_FINISH: usize = 18446744073709551615;
+const NUMBERS: usize = FIRST_STEP + MOST_STEPS;
 
-// What the place of a finish holds.
-pub fn packed(cost: usize, steps: usize) -> usize {
-    if cost == NONE {
-        return NO_FINISH;
-    }
-    4096 * (cost % NONE) + steps % 4096
+#[derive(Drop)]
+pub struct Answer {
+    // the refusal's number and its place, or 0 and the cost; and the number of steps
+    said: [u64; SAID],
+    distances: [u32; DISTANCES],
+    table: [u64; TABLE],
+    steps: [u16; MOST_STEPS],
 }
 
-// An answer that leaves every place as it was.
-pub fn untouched(number: usize, beside: usize) -> [usize; ANSWER] {
-    let mut answer = [MARK; ANSWER];
-    answer[0] = number;
-    answer[1] = beside;
-    answer[2] = 0;
-    answer
-}
-
-// What the search answers to a row of numbers, and what it leaves in the rooms.
-pub fn searched(town: &[usize; NUMBERS]) -> [usize; ANSWER] {
-    let mut distances = [MARK as u32; DISTANCES];
-    let mut table = [MARK as u64; TABLE];
-    let mut steps = [MARK as u16; STEPS];
-    let mut network = [0u8; NETWORK];
-    let mut request = [0u8; REQUEST];
-    let sizes = Sizes {
-        network: put_network(town, &mut network),
-        request: put_request(town, &mut request),
-    };
-    let planned = planned(
-        &network,
-        &request,
-        sizes,
+// What the search answers, and what it leaves in the rooms.
+pub fn searched(town: &Town) -> Result<Answer, AllocError> {
+    let mut network = [0; NETWORK];
+    let mut request = [0; REQUEST];
+    let network_length = put_network(town, &mut network)?;
+    let request_length = put_request(town, &mut request);
+    let mut distances = [u32::from(MARK); DISTANCES];
+    let mut table = [u64::from(MARK); TABLE];
+    let mut steps = [MARK; MOST_STEPS];
+    let planned = search::search(
+        first(&network, network_length),
+        first(&request, request_length),
         &mut distances,
         &mut table,
         &mut steps,
     );
-    let mut answer = said(planned);
-    put_rooms(&mut answer, &distances, &table, &steps);
-    answer
-}
-
-// How long the two records are.
-#[derive(Clone, Copy)]
-struct Sizes {
-    network: usize,
-    request: usize,
-}
-
-fn planned(
-    network: &[u8; NETWORK],
-    request: &[u8; REQUEST],
-    sizes: Sizes,
-    distances: &mut [u32; DISTANCES],
-    table: &mut [u64; TABLE],
-    steps: &mut [u16; STEPS],
-) -> Planned {
-    search::search(
-        first(network, sizes.network),
-        first(request, sizes.request),
+    Ok(Answer {
+        said: said(planned),
         distances,
         table,
         steps,
-    )
+    })
 }
 
 // The first bytes of a room, or all where there are fewer.
 fn first(room: &[u8], count: usize) -> &[u8] {
-    if room.len() < count {
-        return room;
-    }
-    &room[0..count]
+    room.get(..count).unwrap_or(room)
 }
 
-fn said(planned: Planned) -> [usize; ANSWER] {
-    let Planned::Plan { cost, count } = planned else {
-        let Planned::Refused(refusal) = planned else {
-            return [0; ANSWER];
-        };
-        return untouched(refusal.number as usize, refusal.place);
-    };
-    let mut answer = untouched(0, cost as usize);
-    answer[2] = count;
-    answer
-}
-
-fn put_rooms(
-    answer: &mut [usize; ANSWER],
-    distances: &[u32; DISTANCES],
-    table: &[u64; TABLE],
-    steps: &[u16; STEPS],
-) {
-    let mut i = 0;
-    while i < DISTANCES + TABLE + STEPS {
-        answer[FIRST_DISTANCE + i] = held(distances, table, steps, i);
-        i += 1;
+fn said(planned: Planned) -> [u64; SAID] {
+    match planned {
+        Planned::Plan { cost, count } => [0, cost, count as u64],
+        Planned::Refused(refusal) => [u64::from(refusal.number), refusal.place as u64, 0],
     }
 }
 
-// What place i of the rooms holds, one room behind the other.
-fn held(
-    distances: &[u32; DISTANCES],
-    table: &[u64; TABLE],
-    steps: &[u16; STEPS],
-    i: usize,
-) -> usize {
-    if i < DISTANCES {
-        return distance(distances[i]);
+// What the search is to answer and to leave, with the plan's steps in their room and the places behind them as they were.
+pub fn listed(survey: &Survey, plan: Option<Plan>) -> Result<Answer, AllocError> {
+    let town = &survey.town;
+    let plan = plan.as_ref();
+    let table = array::try_from_fn(|i| listed_finish(survey, town.row_and_node(i)))?;
+    let steps = plan.map_or(&[][..], |plan| plan.steps.as_slice());
+    Ok(Answer {
+        said: plan.map_or([24, 0, 0], |plan| [0, plan.cost, steps.len() as u64]),
+        distances: array::from_fn(|i| listed_distance(survey, town.row_and_node(i))),
+        table,
+        steps: array::from_fn(|i| steps.get(i).copied().unwrap_or(MARK)),
+    })
+}
+
+fn listed_distance(survey: &Survey, (j, node): (usize, u16)) -> u32 {
+    if survey.town.riders.len() <= j {
+        return u32::from(MARK);
     }
-    let j = i - DISTANCES;
-    if j < TABLE {
-        return table[j] as usize;
+    survey.distance(j, node).unwrap_or(NO_DISTANCE)
+}
+
+fn listed_finish(survey: &Survey, (riders, node): (usize, u16)) -> Result<u64, AllocError> {
+    if survey.town.all_riders().0 < riders {
+        return Ok(u64::from(MARK));
     }
-    step(steps[(j - TABLE) % STEPS])
+    let finish = survey.best_finish(RiderSet(riders), node)?;
+    Ok(finish.plan.map_or(NO_FINISH, |plan| packed(&plan)))
 }
 
-fn distance(x: u32) -> usize {
-    x as usize
+fn packed(plan: &Plan) -> u64 {
+    plan.cost
+        .saturating_mul(4096)
+        .saturating_add(plan.steps.len() as u64)
 }
 
-fn step(x: u16) -> usize {
-    x as usize
-}
-
-// Puts numbers into an answer from a place on, as many as it has places for.
-pub fn put(answer: &mut [usize; ANSWER], first: usize, numbers: &[usize]) {
-    let mut at = first;
-    let mut i = 0;
-    while at < ANSWER {
-        if numbers.len() <= i {
-            return;
+impl Answer {
+    fn number(&self, i: usize) -> u64 {
+        match i {
+            0..SAID => self.said[i],
+            SAID..FIRST_FINISH => u64::from(self.distances[i - SAID]),
+            FIRST_FINISH..FIRST_STEP => self.table[i - FIRST_FINISH],
+            _ => u64::from(self.steps[(i - FIRST_STEP) % MOST_STEPS]),
         }
-        answer[at] = numbers[i];
-        at += 1;
-        i += 1;
     }
-}
 
-// Whether the answer for a town is the right one. Prints the first number of it that is wrong.
-pub fn passes(
-    rt: &impl Print,
-    town: usize,
-    got: &[usize; ANSWER],
-    right: &[usize; ANSWER],
-) -> io::Result<bool> {
-    let i = first_difference(got, right);
-    if i < ANSWER {
-        print_number(rt, b"town ", town)?;
-        print_number(rt, b", number ", i)?;
-        print_number(rt, b": got ", got[i])?;
-        print_number(rt, b", not ", right[i])?;
-        rt.write_all(b"\n")?;
-        return Ok(false);
-    }
-    Ok(true)
-}
-
-pub fn print_number(rt: &impl Print, before: &[u8], x: usize) -> io::Result<()> {
-    rt.write_all(before)?;
-    rt.print(x)
-}
-
-// The first number in which two rows of numbers differ, or how many the shorter one has.
-pub fn first_difference(a: &[usize], b: &[usize]) -> usize {
-    let mut i = 0;
-    while i < a.len() {
-        if b.len() <= i {
-            return i;
+    // Whether the answer for a town is the right one. Prints the first number of it that is wrong.
+    pub fn passes(&self, rt: &impl Print, town: usize, right: &Answer) -> io::Result<bool> {
+        let wrong = (0..NUMBERS).find(|&i| self.number(i) != right.number(i));
+        if let Some(i) = wrong {
+            let (got, wanted) = (self.number(i), right.number(i));
+            println!(rt; "town {town}, number {i}: got {got}, not {wanted}")?;
         }
-        if a[i] != b[i] {
-            return i;
-        }
-        i += 1;
+        Ok(wrong.is_none())
     }
-    i
 }

@@ -1,6 +1,6 @@
--- Nothing is claimed of the loop but that it ends: i rises to the number of towns.
-use Rattle.std.proofs.Common.{◌-◌}
+-- So many towns as were counted came before this one.
+use Rattle.std.proofs.Common.{◌≡◌, ◌+◌}
 use Rattle.listing.proofs.main.Given as goal
 
-abbrev pub decreases-loop-i : goal.decreases-loop-i
-decreases-loop-i l = 1000 - l.i
+abbrev pub invariant-loop-i : goal.invariant-loop-i
+invariant-loop-i l = l.planned + l.tied + l.refused ≡ l.i

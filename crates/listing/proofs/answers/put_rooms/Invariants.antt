@@ -1,6 +1,0 @@
--- Nothing is claimed of the loop but that it ends: i rises to the number of places.
-use Rattle.std.proofs.Common.{◌-◌}
-use Rattle.listing.proofs.answers.put_rooms.Given as goal
-
-abbrev pub decreases-loop-i : goal.decreases-loop-i
-decreases-loop-i l = 158 - l.i
