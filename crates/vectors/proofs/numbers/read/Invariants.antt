@@ -1,6 +1,9 @@
--- Nothing is claimed of the loop but that it ends: the tokens read rise to the length of the part.
-use Rattle.std.proofs.Common.{◌-◌, length}
+-- The numbers read fit the list. What is left of the part gets shorter.
+use Rattle.std.proofs.Common.{◌≤◌, length}
 use Rattle.vectors.proofs.numbers.read.Given as goal
 
-abbrev pub decreases-loop-tokens : goal.decreases-loop-tokens
-decreases-loop-tokens l = length l.part - l.tokens
+abbrev pub invariant-loop-rest : goal.invariant-loop-rest
+invariant-loop-rest l = l.count ≤ 65552
+
+abbrev pub decreases-loop-rest : goal.decreases-loop-rest
+decreases-loop-rest l = length l.rest

@@ -1,6 +1,6 @@
--- Nothing is claimed of the loop but that it ends: i rises to the number of times.
-use Rattle.std.proofs.Common.{◌-◌}
+-- The numbers and their copies fit the list.
+use Rattle.std.proofs.Common.{◌≤◌}
 use Rattle.vectors.proofs.numbers.with_copies.Given as goal
 
-abbrev pub decreases-loop-i : goal.decreases-loop-i
-decreases-loop-i l = l.most - l.i
+abbrev pub invariant-loop : goal.invariant-loop
+invariant-loop l = l.end ≤ 65552
