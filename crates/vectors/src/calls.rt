@@ -1,6 +1,6 @@
 // The calls: each entry by its name, with the rooms that it is lent.
 use crate::layout::{Handed, RECORD, numbers_of};
-use crate::numbers::{NUMBERS, read};
+use crate::numbers::List;
 use crate::rooms::*;
 use crate::text::Line;
 use crate::wrong::Wrong;
@@ -41,13 +41,13 @@ impl Call<'_> {
 
     // The numbers that the line gives its entry, if these and its parts are what the entry takes.
     fn given<const N: usize>(self, parts: usize) -> Result<[usize; N], Wrong> {
-        let mut list = [0; NUMBERS];
-        let count = read(self.line.part(0), &mut list);
-        if count != Some(N) || parts < self.line.part_count() {
+        let mut list = List::new();
+        let numbers = list.read(self.line.part(0)).ok_or(Wrong::NotGiven)?;
+        if numbers.len() != N || parts < self.line.part_count() {
             return Err(Wrong::NotGiven);
         }
         let mut given = [0; N];
-        for (place, number) in given.iter_mut().zip(&list) {
+        for (place, number) in given.iter_mut().zip(numbers) {
             *place = *number as usize;
         }
         Ok(given)
@@ -102,7 +102,7 @@ impl Call<'_> {
 
     fn walks(self) -> Result<(), Wrong> {
         let [start, places] = self.given::<2>(3)?;
-        let mut distances = [u32::from(BEFORE); WORDS];
+        let mut distances = [BEFORE as u32; WORDS];
         let room = distances.get_mut(..places).ok_or(Wrong::NotGiven)?;
         let answer = tivelgor_walk(self.handed.network.lent(), start, room);
         self.answer_is(answer)?;
@@ -112,7 +112,7 @@ impl Call<'_> {
     fn prices(self) -> Result<(), Wrong> {
         let [places] = self.given::<1>(3)?;
         let mut links = [0u16; RECORD / 2];
-        let mut meeting = [u16::from(BEFORE); SHORTS];
+        let mut meeting = [BEFORE as u16; SHORTS];
         let answer = tivelgor_price(
             self.handed.network.lent(),
             self.handed.request.lent(),
@@ -139,9 +139,9 @@ impl Call<'_> {
 
     fn searches(self) -> Result<(), Wrong> {
         let [distance_places, table_places, step_places] = self.given::<3>(5)?;
-        let mut distances = [u32::from(BEFORE); WORDS];
-        let mut table = [u64::from(BEFORE); LONGS];
-        let mut steps = [u16::from(BEFORE); SHORTS];
+        let mut distances = [BEFORE as u32; WORDS];
+        let mut table = [BEFORE; LONGS];
+        let mut steps = [BEFORE as u16; SHORTS];
         let answer = tivelgor_search(
             self.handed.network.lent(),
             self.handed.request.lent(),
@@ -181,7 +181,7 @@ impl Call<'_> {
         requires { F.IsAlwaysCallable write }
     {
         let [n, places] = self.given::<2>(3)?;
-        let mut record = [BEFORE; BYTES];
+        let mut record = [BEFORE as u8; BYTES];
         let room = record.get_mut(..places).ok_or(Wrong::NotGiven)?;
         self.answer_is(write(n, numbers, room))?;
         self.room_is("record", &record, 2)

@@ -1,7 +1,7 @@
 // What the calls are handed, laid out as bytes.
 ghost use Rattle.std.specs.Prelude.{◌<◌, ◌≤◌};
 
-use crate::numbers::{NUMBERS, read};
+use crate::numbers::List;
 use crate::text::Line;
 use crate::wrong::Wrong;
 
@@ -99,10 +99,10 @@ impl Record {
     // Lays out what a line lists, with 255 behind it: the fields of a record behind the number of bytes that are lent,
     // or the numbers of a list.
     pub fn lay_out(&mut self, kind: Kind, line: Line) -> Result<(), Wrong> {
-        let mut list = [0; NUMBERS];
-        let count = read(line.part(0), &mut list).ok_or(Wrong::NotHanded)?;
-        let (size, fields) = parted(kind, &list[..count]).ok_or(Wrong::NotHanded)?;
-        if RECORD < count || RECORD < size || 1 < line.part_count() {
+        let mut list = List::new();
+        let numbers = list.read(line.part(0)).ok_or(Wrong::NotHanded)?;
+        let (size, fields) = parted(kind, numbers).ok_or(Wrong::NotHanded)?;
+        if RECORD < numbers.len() || RECORD < size || 1 < line.part_count() {
             return Err(Wrong::NotHanded);
         }
         self.size = size;

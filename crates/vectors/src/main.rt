@@ -55,7 +55,7 @@ struct WrongLine<'a> {
 fn calls_of(text: &[u8]) -> Result<usize, WrongLine<'_>> {
     let mut handed = Handed::new();
     let mut calls = 0;
-    for (before, line) in text.split(is_line_feed).enumerate() {
+    for (before, line) in text.split(|byte| *byte == b'\n').enumerate() {
         calls += calls_of_line(line, &mut handed).map_err(|wrong| WrongLine {
             number: before + 1,
             line,
@@ -63,10 +63,6 @@ fn calls_of(text: &[u8]) -> Result<usize, WrongLine<'_>> {
         })?;
     }
     Ok(calls)
-}
-
-fn is_line_feed(byte: &u8) -> bool {
-    *byte == b'\n'
 }
 
 // Makes the call of a line, or lays out what the calls from here on are handed. Gives how many calls were made.

@@ -17,22 +17,65 @@ enum Token {
     Copies { size: u64, times: u64 },
 }
 
-// Puts the numbers of a part at the start of a list, and gives how many there are. None where there are too many, or at
-// something that is none; the list then has those before it.
-pub fn read(part: &[u8], list: &mut [u64; NUMBERS]) -> Option<usize>
-    ensures { IfSome result (λ count. count ≤ 65552) }
-{
-    let mut rest = without_spaces(part);
-    let mut count = 0;
-    while !rest.is_empty() {
-        let (token, behind) = first_token(rest)?;
-        count = match token {
-            Token::Number(number) => with_number(number, count, list)?,
-            Token::Copies { size, times } => with_copies(size, times, count, list)?,
-        };
-        rest = without_spaces(behind);
+// The numbers of a part, in a room of its own.
+#[derive(Drop)]
+pub struct List {
+    room: [u64; NUMBERS],
+    count: usize,
+    ghost in_room: { count ≤ 65552 },
+}
+
+impl List {
+    pub fn new() -> List {
+        List {
+            room: [0; NUMBERS],
+            count: 0,
+        }
     }
-    Some(count)
+
+    pub fn numbers(&self) -> &[u64] {
+        &self.room[..self.count]
+    }
+
+    // Puts the numbers of a part behind those of the list, and gives all. None where there are too many, or at something
+    // that is none; the list then has those before it.
+    pub fn read(&mut self, part: &[u8]) -> Option<&[u64]> {
+        let mut rest = without_spaces(part);
+        while !rest.is_empty() {
+            let (token, behind) = first_token(rest)?;
+            match token {
+                Token::Number(number) => self.push(number)?,
+                Token::Copies { size, times } => self.repeat(size as usize, times as usize)?,
+            }
+            rest = without_spaces(behind);
+        }
+        Some(self.numbers())
+    }
+
+    fn push(&mut self, number: u64) -> Option<()> {
+        *self.room.get_mut(self.count)? = number;
+        self.count += 1;
+        Some(())
+    }
+
+    fn repeat(&mut self, size: usize, times: usize) -> Option<()> {
+        if NUMBERS < times {
+            return None;
+        }
+        for _ in 0..times {
+            self.push_again(size)?;
+        }
+        Some(())
+    }
+
+    // Puts so many numbers of the end once more behind it.
+    fn push_again(&mut self, size: usize) -> Option<()> {
+        let start = self.count.checked_sub(size)?;
+        let (before, behind) = self.room.split_at_mut(self.count);
+        behind.get_mut(..size)?.copy_from_slice(&before[start..]);
+        self.count += size;
+        Some(())
+    }
 }
 
 fn without_spaces(text: &[u8]) -> &[u8]
@@ -40,39 +83,6 @@ fn without_spaces(text: &[u8]) -> &[u8]
 {
     let (_, rest) = split_before(text, |byte| *byte != b' ');
     rest
-}
-
-fn with_number(number: u64, count: usize, list: &mut [u64; NUMBERS]) -> Option<usize>
-    requires { count ≤ 65552 }
-    ensures { IfSome result (λ more. more ≤ 65552) }
-{
-    *list.get_mut(count)? = number;
-    Some(count + 1)
-}
-
-// So many numbers of the list once more behind it, so many times.
-fn with_copies(size: u64, times: u64, count: usize, list: &mut [u64; NUMBERS]) -> Option<usize>
-    requires { count ≤ 65552 }
-    ensures { IfSome result (λ more. more ≤ 65552) }
-{
-    if NUMBERS < times as usize {
-        return None;
-    }
-    let mut end = count;
-    for _ in 0..times {
-        end = with_copy(size as usize, end, list)?;
-    }
-    Some(end)
-}
-
-fn with_copy(size: usize, count: usize, list: &mut [u64; NUMBERS]) -> Option<usize>
-    requires { count ≤ 65552 }
-    ensures { IfSome result (λ more. more ≤ 65552) }
-{
-    let start = count.checked_sub(size)?;
-    let (before, behind) = list.split_at_mut(count);
-    behind.get_mut(..size)?.copy_from_slice(&before[start..]);
-    Some(count + size)
 }
 
 // A number, or two with a sign between them; and what stands behind.

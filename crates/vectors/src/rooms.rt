@@ -1,6 +1,7 @@
 // Whether an answer and the places of a room are what a part of the line lists. The first difference is told.
-use crate::numbers::{NUMBERS, read};
+use crate::numbers::{List, NUMBERS};
 use crate::wrong::Wrong;
+use std::iter::repeat;
 
 // The places of a room of each width: all that can be needed, and some more.
 pub const BYTES: usize = 16409;
@@ -12,7 +13,7 @@ pub const WORDS: usize = 3600;
 pub const LONGS: usize = NUMBERS;
 
 // What every place of a room holds before a call, and all behind what is listed afterwards.
-pub const BEFORE: u8 = 77;
+pub const BEFORE: u64 = 77;
 
 // A number of the width of a room's places.
 pub trait Place: Copy + Into<u64> {
@@ -36,11 +37,10 @@ impl Place for u64 {
 }
 
 pub fn answer_is(got: u64, part: &[u8]) -> Result<(), Wrong> {
-    let mut right = [0; NUMBERS];
-    if read(part, &mut right) != Some(1) {
-        return Err(Wrong::NotNumbers);
+    match List::new().read(part) {
+        Some([right]) => number_is("answer", got, *right),
+        _ => Err(Wrong::NotNumbers),
     }
-    number_is("answer", got, right[0])
 }
 
 pub fn number_is(what: &'static str, got: u64, right: u64) -> Result<(), Wrong> {
@@ -55,13 +55,16 @@ pub fn room_is<T: Place>(
     what: &'static str,
     room: &[T],
     part: &[u8],
-    rest: u8,
+    rest: u64,
 ) -> Result<(), Wrong> {
-    let mut right = [u64::from(rest); NUMBERS];
-    let listed = read(part, &mut right);
-    for (place, (got, right)) in room.iter().zip(&right).enumerate() {
+    let mut list = List::new();
+    let fits = list
+        .read(part)
+        .is_some_and(|numbers| numbers.len() <= room.len());
+    let right = list.numbers().iter().copied().chain(repeat(rest));
+    for (place, (got, right)) in room.iter().zip(right).enumerate() {
         let got = (*got).into();
-        let right = in_width::<T>(*right);
+        let right = in_width::<T>(right);
         if got != right {
             return Err(Wrong::Place {
                 what,
@@ -71,10 +74,7 @@ pub fn room_is<T: Place>(
             });
         }
     }
-    if listed.is_none_or(|count| room.len() < count) {
-        return Err(Wrong::NotNumbers);
-    }
-    Ok(())
+    fits.then_some(()).ok_or(Wrong::NotNumbers)
 }
 
 // A number with every bit set is the greatest of its place.
