@@ -37,6 +37,7 @@ fn run(rt: &impl Print, text: &[u8]) -> io::Result<()> {
         Err(at) => {
             println!(rt; "{}", at.wrong)?;
             print!(rt; "line {}: ", at.number)?;
+            // A line is bytes, which need not be text.
             rt.write_all(at.line)?;
             rt.write_all(b"\n")
         }

@@ -74,7 +74,10 @@ pub fn room_is<T: Place>(
             });
         }
     }
-    fits.then_some(()).ok_or(Wrong::NotNumbers)
+    if !fits {
+        return Err(Wrong::NotNumbers);
+    }
+    Ok(())
 }
 
 // A number with every bit set is the greatest of its place.
