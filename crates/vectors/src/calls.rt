@@ -39,7 +39,7 @@ impl Call<'_> {
         }
     }
 
-    // The numbers that the line gives its entry, if these and its parts are what the entry takes.
+    // The numbers that the line gives its entry, if there are N, and no more parts than the entry takes.
     fn given<const N: usize>(self, parts: usize) -> Result<[usize; N], Wrong> {
         let mut list = List::new();
         let numbers = list.read(self.line.part(0)).ok_or(Wrong::NotGiven)?;
@@ -173,6 +173,7 @@ impl Call<'_> {
         )
     }
 
+    // Writes a record from numbers.
     fn writes<T, F: Fn(usize, &[T], &mut [u8]) -> u64>(
         self,
         numbers: &[T],

@@ -44,7 +44,7 @@ impl Kind {
     }
 }
 
-// Room for what is handed over, which is the first bytes of it.
+// What is handed over of a kind: the first bytes of a room, which is fixed memory, since the project has no heap.
 #[derive(Drop)]
 pub struct Record {
     bytes: [u8; RECORD],

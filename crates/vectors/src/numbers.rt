@@ -17,7 +17,7 @@ enum Token {
     Copies { size: u64, times: u64 },
 }
 
-// The numbers of a part, in a room of its own.
+// The numbers of a part, in fixed memory: the project has no heap.
 #[derive(Drop)]
 pub struct List {
     room: [u64; NUMBERS],
