@@ -1,5 +1,7 @@
 // The calls: each entry by its name, with the rooms that it is lent.
-use crate::layout::{Handed, RECORD, numbers_of};
+ghost use Rattle.std.specs.Prelude.{◌<◌, ◌≤◌};
+
+use crate::layout::{Handed, Number, RECORD, numbers_of};
 use crate::numbers::List;
 use crate::rooms::*;
 use crate::text::Line;
@@ -33,8 +35,16 @@ impl Call<'_> {
             b"price" => self.prices(),
             b"tablet" => self.prices_on_tablet(),
             b"search" => self.searches(),
-            b"write-network" => self.writes_network(),
-            b"write-request" => self.writes_request(),
+            b"write-network" => self.writes(
+                self.handed.links.lent(),
+                &mut [0u16; RECORD / 2],
+                |n, links, record| tivelgor_write_network(n, links, record),
+            ),
+            b"write-request" => self.writes(
+                self.handed.value.lent(),
+                &mut [0u64; RECORD / 8],
+                |n, value, record| tivelgor_write_request(n, value, record),
+            ),
             _ => Err(Wrong::NoEntry),
         }
     }
@@ -155,36 +165,21 @@ impl Call<'_> {
         self.room_is("steps", &steps, 4)
     }
 
-    fn writes_network(self) -> Result<(), Wrong> {
-        let mut links = [0u16; RECORD / 2];
-        let links = numbers_of(self.handed.links.lent(), &mut links);
-        self.writes(
-            links,
-            |n, links, record| tivelgor_write_network(n, links, record),
-        )
-    }
-
-    fn writes_request(self) -> Result<(), Wrong> {
-        let mut value = [0u64; RECORD / 8];
-        let value = numbers_of(self.handed.value.lent(), &mut value);
-        self.writes(
-            value,
-            |n, value, record| tivelgor_write_request(n, value, record),
-        )
-    }
-
-    // Writes a record from numbers.
-    fn writes<T, F: Fn(usize, &[T], &mut [u8]) -> u64>(
+    // Writes a record from the numbers of a list, for which there is a room.
+    fn writes<const N: usize, T: Number<N>, F: Fn(usize, &[T], &mut [u8]) -> u64>(
         self,
-        numbers: &[T],
+        list: &[u8],
+        numbers: &mut [T],
         write: F,
     ) -> Result<(), Wrong>
-        requires { F.IsAlwaysCallable write }
+        requires some { 0 < N }
+        requires few { N ≤ 8 }
+        requires callable { F.IsAlwaysCallable write }
     {
         let [n, places] = self.given::<2>(3)?;
         let mut record = [BEFORE as u8; BYTES];
         let room = record.get_mut(..places).ok_or(Wrong::NotGiven)?;
-        self.answer_is(write(n, numbers, room))?;
+        self.answer_is(write(n, numbers_of(list, numbers), room))?;
         self.room_is("record", &record, 2)
     }
 }
