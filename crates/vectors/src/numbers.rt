@@ -1,211 +1,135 @@
 // The numbers of a part.
-ghost use Rattle.std.specs.Prelude.{◌+◌, ◌≤◌};
+ghost use Rattle.std.specs.Prelude.{◌<◌, ◌≤◌, length, IfSome};
 
-use crate::text::byte_at;
+use crate::text::split_before;
+use rules::FIRST_REFUSAL;
 
-// How many numbers a part may have. A part that is not understood counts as one that has more.
+// How many numbers a part may have.
 pub const NUMBERS: usize = 65552;
 
-pub const EVERY_BIT: u64 = 18446744073709551615;
-
 // From here on a number takes no further digit.
-const LARGE: u64 = 1844674407370955161;
+const LARGE: u64 = u64::MAX / 10;
 
-// How far a part is read, and how many numbers were put into the list.
+// A number, or so many numbers before it so many times more.
 #[derive(Clone, Copy)]
-struct Reading {
-    at: usize,
+enum Token {
+    Number(u64),
+    Copies { size: u64, times: u64 },
+}
+
+// The numbers of a part, in fixed memory: the project has no heap.
+#[derive(Drop)]
+pub struct List {
+    room: [u64; NUMBERS],
     count: usize,
+    ghost in_room: { count ≤ 65552 },
 }
 
-// Digits, or the sign that stands for every bit; and where that ends.
-#[derive(Clone, Copy)]
-struct Plain {
-    value: u64,
-    next: usize,
-    known: bool,
-}
-
-// Puts the numbers of a part at the start of a list, and gives how many there are.
-pub fn read(part: &[u8], list: &mut [u64; NUMBERS]) -> usize {
-    let mut reading = Reading {
-        at: after_spaces(part, 0),
-        count: 0,
-    };
-    let mut tokens = 0;
-    while tokens < part.len() {
-        if part.len() <= reading.at {
-            return reading.count;
+impl List {
+    pub fn new() -> List {
+        List {
+            room: [0; NUMBERS],
+            count: 0,
         }
-        reading = after_token(part, reading, list);
-        tokens += 1;
     }
-    reading.count
-}
 
-fn after_spaces(part: &[u8], start: usize) -> usize {
-    let mut at = start;
-    while at < part.len() {
-        if part[at] != b' ' {
-            return at;
+    pub fn numbers(&self) -> &[u64] {
+        &self.room[..self.count]
+    }
+
+    // Puts the numbers of a part behind those of the list, and gives all. None where there are too many, or at something
+    // that is none; the list then has those before it.
+    pub fn read(&mut self, part: &[u8]) -> Option<&[u64]> {
+        let mut rest = without_spaces(part);
+        while !rest.is_empty() {
+            let (token, behind) = first_token(rest)?;
+            match token {
+                Token::Number(number) => self.push(number)?,
+                Token::Copies { size, times } => self.repeat(size as usize, times as usize)?,
+            }
+            rest = without_spaces(behind);
         }
-        at += 1;
+        Some(self.numbers())
     }
-    at
-}
 
-// A number, or two with a sign between them, and the spaces behind.
-fn after_token(part: &[u8], reading: Reading, list: &mut [u64; NUMBERS]) -> Reading {
-    let first = plain_number(part, reading.at);
-    let sign = byte_at(part, first.next);
-    if sign == b' ' || sign == b'\n' {
-        return with_number(part, reading.count, first, list);
+    fn push(&mut self, number: u64) -> Option<()> {
+        *self.room.get_mut(self.count)? = number;
+        self.count += 1;
+        Some(())
     }
-    let second = plain_number(part, after(first.next));
-    if sign == b'*' {
-        return with_copies(part, reading.count, first, second, list);
-    }
-    with_number(part, reading.count, joined(sign, first, second), list)
-}
 
-fn with_number(part: &[u8], count: usize, number: Plain, list: &mut [u64; NUMBERS]) -> Reading {
-    let at = after_spaces(part, number.next);
-    if NUMBERS <= count {
-        return not_understood(at);
+    fn repeat(&mut self, size: usize, times: usize) -> Option<()> {
+        if NUMBERS < times {
+            return None;
+        }
+        for _ in 0..times {
+            self.push_again(size)?;
+        }
+        Some(())
     }
-    if !number.known {
-        return not_understood(at);
-    }
-    list[count] = number.value;
-    Reading {
-        at,
-        count: count + 1,
+
+    // Puts so many numbers of the end once more behind it.
+    fn push_again(&mut self, size: usize) -> Option<()> {
+        let start = self.count.checked_sub(size)?;
+        let (before, behind) = self.room.split_at_mut(self.count);
+        behind.get_mut(..size)?.copy_from_slice(&before[start..]);
+        self.count += size;
+        Some(())
     }
 }
 
-fn not_understood(at: usize) -> Reading {
-    Reading {
-        at,
-        count: NUMBERS + 1,
-    }
-}
-
-// So many numbers of the list once more behind it, so many times.
-fn with_copies(
-    part: &[u8],
-    count: usize,
-    numbers: Plain,
-    times: Plain,
-    list: &mut [u64; NUMBERS],
-) -> Reading {
-    let at = after_spaces(part, times.next);
-    let most = times.value as usize;
-    if NUMBERS < most || !numbers.known || !times.known {
-        return not_understood(at);
-    }
-    let mut end = count;
-    let mut i = 0;
-    while i < most {
-        end = copied(end, numbers.value as usize, list);
-        i += 1;
-    }
-    Reading { at, count: end }
-}
-
-fn copied(count: usize, size: usize, list: &mut [u64; NUMBERS]) -> usize {
-    if NUMBERS < count {
-        return count;
-    }
-    if count < size {
-        return NUMBERS + 1;
-    }
-    if NUMBERS - count < size {
-        return NUMBERS + 1;
-    }
-    copy(list, count - size, count, size);
-    count + size
-}
-
-fn copy(list: &mut [u64; NUMBERS], from: usize, to: usize, size: usize)
-    requires from_le_to { from ≤ to }
-    requires size_bound { to + size ≤ 65552 }
+fn without_spaces(text: &[u8]) -> &[u8]
+    ensures { length result.now ≤ length text.now }
 {
-    let mut i = 0;
-    while i < size {
-        list[to + i] = list[from + i];
-        i += 1;
-    }
+    let (_, rest) = split_before(text, |byte| *byte != b' ');
+    rest
 }
 
-fn plain_number(part: &[u8], start: usize) -> Plain {
-    if byte_at(part, start) == b'-' {
-        return Plain {
-            value: EVERY_BIT,
-            next: after(start),
-            known: true,
-        };
-    }
-    let mut value = 0;
-    let mut at = start;
-    while at < part.len() {
-        let digit = digit_value(part[at]);
-        if 9 < digit {
-            return digits(value, start, at);
+// A number, or two with a sign between them; and what stands behind.
+fn first_token(text: &[u8]) -> Option<(Token, &[u8])>
+    ensures { IfSome result (λ token. length token.1.now < length text.now) }
+{
+    let (first, rest) = plain_number(text)?;
+    match rest {
+        [] | [b' ', ..] => Some((Token::Number(first), rest)),
+        [sign, behind @ ..] => {
+            let (second, behind) = plain_number(behind)?;
+            Some((joined(*sign, first, second)?, behind))
         }
-        value = with_digit(value, digit);
-        at += 1;
-    }
-    digits(value, start, at)
-}
-
-// No digit makes no number, and neither do too many.
-fn digits(value: u64, start: usize, next: usize) -> Plain {
-    Plain {
-        value,
-        next,
-        known: start < next && value < EVERY_BIT,
     }
 }
 
-// What a digit counts, or 10 where there is none.
-fn digit_value(byte: u8) -> u64 {
-    match byte {
-        b'0'..=b'9' => (byte - b'0') as u64,
-        _ => 10,
+// Digits, or the sign that stands for every bit; and what stands behind.
+fn plain_number(text: &[u8]) -> Option<(u64, &[u8])>
+    ensures { IfSome result (λ number. length number.1.now < length text.now) }
+{
+    if let [b'-', rest @ ..] = text {
+        return Some((u64::MAX, rest));
     }
+    let (digits, rest) = split_before(text, |byte| !byte.is_ascii_digit());
+    if digits.is_empty() {
+        return None;
+    }
+    let number = digits.iter().try_fold(0, with_digit)?;
+    Some((number, rest))
 }
 
-fn with_digit(value: u64, digit: u64) -> u64 {
-    if LARGE <= value {
-        return EVERY_BIT;
+fn with_digit(number: u64, digit: &u8) -> Option<u64> {
+    if LARGE <= number {
+        return None;
     }
-    value * 10 + digit % 10
+    let value = char::from(*digit).to_digit(10)?;
+    Some(number * 10 + u64::from(value))
 }
 
 // What two numbers with a sign between them are.
-fn joined(sign: u8, first: Plain, second: Plain) -> Plain {
-    let a = first.value;
-    let b = second.value;
-    let value = match sign {
-        b':' => a % 4503599627370496 * 4096 + b % 4096,
-        b',' => a % 65536 * 65536 + b % 65536,
-        _ => 9223372036854775808 + b % 65536 * 65536 + a % 65536,
+fn joined(sign: u8, a: u64, b: u64) -> Option<Token> {
+    let number = match sign {
+        b'*' => return Some(Token::Copies { size: a, times: b }),
+        b':' if a < 1 << 52 && b < 4096 => a * 4096 + b,
+        b',' if a < 65536 && b < 65536 => a * 65536 + b,
+        b'@' if a < 65536 && b < 65536 => FIRST_REFUSAL + b * 65536 + a,
+        _ => return None,
     };
-    Plain {
-        value,
-        next: second.next,
-        known: first.known && second.known && can_join(sign, a, b),
-    }
-}
-
-fn can_join(sign: u8, a: u64, b: u64) -> bool {
-    match sign {
-        b':' => a < 4503599627370496 && b < 4096,
-        b',' | b'@' => a < 65536 && b < 65536,
-        _ => false,
-    }
-}
-
-fn after(at: usize) -> usize {
-    at % 4294967296 + 1
+    Some(Token::Number(number))
 }

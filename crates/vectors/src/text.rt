@@ -1,82 +1,39 @@
 // Lines, their words and their parts.
-ghost use Rattle.std.specs.Prelude.{◌≤◌, length};
+ghost use Rattle.std.specs.Prelude.{◌≡◌, ◌+◌, length};
 
-// The byte at a place, or a line feed behind the last one.
-pub fn byte_at(text: &[u8], at: usize) -> u8 {
-    if text.len() <= at {
-        return b'\n';
-    }
-    text[at]
+// A line: the word at its beginning, and behind it parts with bars between them.
+#[derive(Clone, Copy)]
+pub struct Line<'a> {
+    pub word: &'a [u8],
+    parts: &'a [u8],
 }
 
-// Where a byte first stands from a place on, or the end.
-pub fn find(byte: u8, text: &[u8], start: usize) -> usize
-    requires { start ≤ length text.now }
-    ensures { (start ≤ result) × (result ≤ length text.now) }
+impl<'a> Line<'a> {
+    pub fn of(text: &'a [u8]) -> Line<'a> {
+        let (word, parts) = split_before(text, |byte| *byte == b' ');
+        Line { word, parts }
+    }
+
+    // Part i, which is empty where there are fewer.
+    pub fn part(&self, i: usize) -> &'a [u8] {
+        self.parts.split(is_bar).nth(i).unwrap_or(b"")
+    }
+
+    // How many parts there are. An empty one behind the last bar does not count.
+    pub fn part_count(&self) -> usize {
+        self.parts.split_inclusive(is_bar).count()
+    }
+}
+
+fn is_bar(byte: &u8) -> bool {
+    *byte == b'|'
+}
+
+// What stands before the first byte that ends it, and the rest.
+pub fn split_before<F: FnMut(&u8) -> bool>(text: &[u8], ends: F) -> (&[u8], &[u8])
+    requires { (state : F) (x : _) → F.pre state x }
+    ensures { length result.0.now + length result.1.now ≡ length text.now }
 {
-    let mut at = start;
-    while at < text.len() {
-        if text[at] == byte {
-            return at;
-        }
-        at += 1;
-    }
-    at
-}
-
-// The word at the beginning of a line.
-pub fn word(line: &[u8]) -> &[u8] {
-    let end = find(b' ', line, 0);
-    &line[0..end]
-}
-
-pub fn same(a: &[u8], b: &[u8]) -> bool {
-    if a.len() != b.len() {
-        return false;
-    }
-    let mut i = 0;
-    while i < a.len() {
-        if a[i] != b[i] {
-            return false;
-        }
-        i += 1;
-    }
-    true
-}
-
-// What stands between two bars of a line, or for part 0 between its word and the first one. It is empty where there are
-// fewer bars.
-pub fn part(line: &[u8], i: usize) -> &[u8] {
-    let start = part_start(line, i);
-    let end = find(b'|', line, start);
-    &line[start..end]
-}
-
-// Whether a line has no part i.
-pub fn ends_before(line: &[u8], i: usize) -> bool {
-    part_start(line, i) == line.len()
-}
-
-fn part_start(line: &[u8], i: usize) -> usize
-    ensures { result ≤ length line.now }
-{
-    let mut at = find(b' ', line, 0);
-    let mut bars = 0;
-    while bars < i {
-        at = after_bar(line, at);
-        bars += 1;
-    }
-    at
-}
-
-// The place behind the next bar, or the end.
-fn after_bar(line: &[u8], at: usize) -> usize
-    requires { at ≤ length line.now }
-    ensures { result ≤ length line.now }
-{
-    let bar = find(b'|', line, at);
-    if bar == line.len() {
-        return bar;
-    }
-    bar + 1
+    let end = text.iter().position(ends).unwrap_or(text.len());
+    text.split_at(end)
 }

@@ -1,6 +1,0 @@
--- Nothing is claimed of the loop but that it ends: i rises to the places of the room.
-use Rattle.std.proofs.Common.{◌-◌}
-use Rattle.vectors.proofs.rooms.longs_are.Given as goal
-
-abbrev pub decreases-loop-i : goal.decreases-loop-i
-decreases-loop-i g l = 65552 - l.i
