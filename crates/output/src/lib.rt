@@ -30,10 +30,7 @@ pub fn write_text(input: &[u8], text: &mut [u8]) -> usize
     if text.len() < TEXT_PLACES {
         return 0;
     }
-    if MOST_INPUT < input.len() {
-        return write_taken(&input[0..MOST_INPUT], text);
-    }
-    write_taken(input, text)
+    write_taken(&input[..MOST_INPUT.min(input.len())], text)
 }
 
 // Parts what is taken of the input into the network and the request behind it.
@@ -42,8 +39,8 @@ fn write_taken(taken: &[u8], text: &mut [u8]) -> usize
     ensures { PutPlan (take (network_size taken.now) taken.now)
         (drop (network_size taken.now) taken.now) text.old text.new result }
 {
-    let size = records::network_size(taken);
-    write_plan(&taken[0..size], &taken[size..], text)
+    let (network, request) = taken.split_at(records::network_size(taken));
+    write_plan(network, request, text)
 }
 
 // Makes room for the search, and writes what it answers.
