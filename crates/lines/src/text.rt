@@ -41,8 +41,8 @@ impl Line {
     {
         let mut line = Line::empty();
         line.put(b"\n");
-        for x in numbers.iter().rev() {
-            line.put_field(*x);
+        for &x in numbers.iter().rev() {
+            line.put_field(x);
         }
         line.put(word);
         line

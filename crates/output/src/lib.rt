@@ -27,15 +27,14 @@ const TABLE_PLACES: usize = 2048;
 pub fn write_text(input: &[u8], text: &mut [u8]) -> usize
     ensures { Printed input.now text.old text.new result }
 {
-    if text.len() < TEXT_PLACES {
+    let Some(room) = text.first_chunk_mut() else {
         return 0;
-    }
-    write_taken(&input[..MOST_INPUT.min(input.len())], text)
+    };
+    write_taken(&input[..MOST_INPUT.min(input.len())], room)
 }
 
 // Parts what is taken of the input into the network and the request behind it.
-fn write_taken(taken: &[u8], text: &mut [u8]) -> usize
-    requires { text_places ≤ length text.old }
+fn write_taken(taken: &[u8], text: &mut [u8; TEXT_PLACES]) -> usize
     ensures { PutPlan (take (network_size taken.now) taken.now)
         (drop (network_size taken.now) taken.now) text.old text.new result }
 {
@@ -44,8 +43,7 @@ fn write_taken(taken: &[u8], text: &mut [u8]) -> usize
 }
 
 // Makes room for the search, and writes what it answers.
-fn write_plan(network: &[u8], request: &[u8], text: &mut [u8]) -> usize
-    requires { text_places ≤ length text.old }
+fn write_plan(network: &[u8], request: &[u8], text: &mut [u8; TEXT_PLACES]) -> usize
     ensures { PutPlan network.now request.now text.old text.new result }
 {
     let mut distances = [0u32; DISTANCE_PLACES];

@@ -10,6 +10,7 @@ ghost use Rattle.lines.specs.Steps.{Rides};
 ghost use Rattle.output.specs.Text.{text_places};
 ghost use Rattle.output.specs.Answered.{Answered};
 
+use crate::TEXT_PLACES;
 use lines::Line;
 use lines::inner::{node_after, step_line};
 use rules::Planned;
@@ -21,9 +22,9 @@ pub fn put_answer(
     distances: &[u32],
     steps: &[u16],
     answer: Planned,
-    text: &mut [u8],
+    text: &mut [u8; TEXT_PLACES],
 ) -> usize
-    requires { Answered network.now request.now distances.now steps.now (planned_outcome answer) × (text_places ≤ length text.old) }
+    requires { Answered network.now request.now distances.now steps.now (planned_outcome answer) }
     ensures { Put 0 (answer_text network.now (source request.now) (planned_outcome answer)
         distances.now steps.now) text.old text.new result }
 {

@@ -1,9 +1,9 @@
 use Rattle.std.proofs.lemmas.List.{take_min}
 use Rattle.rules.specs.Program.{most_input}
 use Rattle.output.proofs.PutLaws.{printed_whole}
-use borrow.Author.Rules.{rules}
 use Rattle.output.proofs.write_text.Goals as goal
 
 pub returns : goal.returns
 returns c =
-    printed_whole c.args.input.now (search rules) (rw (c.min.ensures, take_min most_input c.args.input.now) at c.write_taken.ensures)
+    printed_whole c.args.input.now c.in-Some.ensures.cases
+    (rw (c.min.ensures, take_min most_input c.args.input.now) at c.write_taken.ensures)

@@ -15,21 +15,21 @@ returns-in_default c =
 
 pub request_source-start-requires : goal.request_source-start-requires
 request_source-start-requires c =
-    omega (arith, (c.requires.0.found _ _ (ap planned_outcome c.in-Plan.is)).long)
+    omega (arith, (c.requires.found _ _ (ap planned_outcome c.in-Plan.is)).long)
 
 pub slice_bounds-put_steps-end : goal.slice_bounds-put_steps-end
 slice_bounds-put_steps-end c =
-    omega (arith, length-take-le c.in-Plan.count c.args.steps.now (c.requires.0.found _ _ (ap planned_outcome c.in-Plan.is)).within)
+    omega (arith, length-take-le c.in-Plan.count c.args.steps.now (c.requires.found _ _ (ap planned_outcome c.in-Plan.is)).within)
 
 pub put_steps-requires : goal.put_steps-requires
 put_steps-requires c =
-    let found = c.requires.0.found _ _ (ap planned_outcome c.in-Plan.is) in
+    let found = c.requires.found _ _ (ap planned_outcome c.in-Plan.is) in
     record {
       rides = rw c.request_source-start.ensures.value found.rides;
-      distances = c.requires.0.room;
+      distances = c.requires.room;
       room =
-          steps_room c.args.steps.now found.within c.requires.0.few
-          c.put_line-end.ensures.few c.put_line-end.ensures.put c.requires.1;
+          steps_room c.args.steps.now found.within c.requires.few
+          c.put_line-end.ensures.few c.put_line-end.ensures.put (omega arith);
     }
 
 pub returns : goal.returns
