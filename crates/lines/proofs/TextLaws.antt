@@ -1,6 +1,6 @@
 -- What a line reads once bytes were put in front, and how long fields are.
 use Rattle.std.proofs.Common.{◌≡◌, ℕ, ◌+◌, ◌-◌, ◌*◌, ◌≤◌, List, [], ◌∷◌, ◌++◌, length, take, drop, ◌∙◌, refl, sym, ap, append_assoc, append-nil, arith}
-use Rattle.std.proofs.lemmas.List.{length-append, length-drop, length-take-le, take-take, take-replicate, drop-drop, drop_at, nil_from_length, length_push}
+use Rattle.std.proofs.lemmas.List.{length-append, length-drop, length-take-le, take-take, take-replicate, drop-drop, drop_at, length_push}
 use Rattle.std.proofs.lemmas.Slice.{take-put_mid_below}
 use borrow.Rule.Slice.PartMut.{put_mid}
 use Rattle.rules.specs.Program.{decimal, fields}
@@ -67,9 +67,3 @@ module _ {numbers left text : List ℕ} where
                 (decimal_length x).1,
               );
         }
-
-    pub spelt_all : length left ≡ 0 → text ≡ fields numbers
-    spelt_all none = so.says ∙ ap fields (ap (λ (l : List ℕ). l ++ so.done) (sym (nil_from_length left none)) ∙ so.split)
-
--- what the proof of the loop over the numbers asks for
-pub ruleset spelling = (length_push, spelt_none, spelt_more, spelt_all)

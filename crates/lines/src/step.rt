@@ -30,7 +30,7 @@ impl From<usize> for Step {
     }
 }
 
-// The line of a step that is taken where the bus stands at the node.
+// The line of a step that is taken where the bus stands at the node. Its `as` stay: no `From` leads from usize to u64.
 pub fn step_line(network: &[u8], distances: &[u32], node: usize, step: usize) -> Line
     requires takes { Takes network.now node step }
     requires distances { distance_places most_nodes most_riders ≤ length distances.now }

@@ -34,7 +34,7 @@ impl Model for Line {
 
 impl Line {
     // The line of a word and its numbers, made from the line feed backwards.
-    #[tactic(auto, using(crate::proofs::TextLaws::spelling))]
+    #[tactic(auto, using(crate::proofs::TextLaws::spelt_none, crate::proofs::TextLaws::spelt_more))]
     pub(crate) fn of(word: &[u8], numbers: &[u64]) -> Self
         requires { length word.now + longest_field * length numbers.now < longest_line }
         ensures { result ≡ line word.now numbers.now }
@@ -75,7 +75,7 @@ impl Line {
         self.put(b" ");
     }
 
-    // A number's digits, in front, from the last one on.
+    // A number's digits, in front, from the last one on. Not by `write!`: its clauses let it fail, and ok_line and the others can't.
     #[tactic(auto, using(crate::proofs::DecimalLaws::decimals))]
     fn put_decimal(&mut self, x: u64)
         requires { length (decimal x) + length self.old ≤ longest_line }

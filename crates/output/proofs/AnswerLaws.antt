@@ -22,12 +22,9 @@ use Rattle.rules.specs.Limits.{most_nodes, most_riders}
 use Rattle.lines.specs.Limits.{longest_line}
 use Rattle.lines.specs.Steps.{Takes, Rides}
 use Rattle.lines.proofs.StepLaws.{rides_takes, rides_on}
-use Rattle.rules.proofs.PuttingLaws.{put_nothing, put_then}
+use Rattle.rules.proofs.PuttingLaws.{put_then}
 
 module _ {network distances : List ℕ} {start : ℕ} {steps : List ℕ} {at : ℕ} {before : List ℕ} where
-  pub stepping_none : at ≤ length before → Rides network start steps → Stepping network distances start steps at before before at start 0
-  stepping_none room rides = record { text = []; put = put_nothing before room; whole = refl; rides = rides; short = omega arith }
-
   module _ {after : List ℕ} {end v i : ℕ} (so : Stepping network distances start steps at before after end v i) where
     module _ (within : i < length steps) where
       left : drop i steps ≡ get_or steps i 0 ∷ drop (suc i) steps
@@ -62,9 +59,6 @@ module _ {network distances : List ℕ} {start : ℕ} {steps : List ℕ} {at : �
         none : (l : List ℕ) → length l ≤ 0 → l ≡ []
         none [] h = refl
         none (x ∷ xs) h = absurd (omega arith)
-
--- what the proof of the loop over the steps asks for
-pub ruleset stepping = (step_takes, stepping_more, stepping_done)
 
 -- what the search answers and leaves behind can be answer_text
 pub found : {network : List ℕ} (request : List ℕ) {before after : Lent} {answer : Outcome} {cost count : ℕ}

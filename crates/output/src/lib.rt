@@ -38,8 +38,8 @@ fn write_taken(taken: &[u8], text: &mut [u8; TEXT_PLACES]) -> usize
     ensures { PutPlan (take (network_size taken.now) taken.now)
         (drop (network_size taken.now) taken.now) text.old text.new result }
 {
-    let (network, request) = taken.split_at(records::network_size(taken));
-    write_plan(network, request, text)
+    let size = records::network_size(taken);
+    write_plan(&taken[..size], &taken[size..], text)
 }
 
 // Makes room for the search, and writes what it answers.

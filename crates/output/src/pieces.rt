@@ -7,7 +7,6 @@ ghost use Rattle.rules.specs.Limits.{most_nodes, most_riders};
 ghost use Rattle.rules.specs.Rooms.{Put, distance_places};
 ghost use Rattle.lines.specs.Limits.{longest_line};
 ghost use Rattle.lines.specs.Steps.{Rides};
-ghost use Rattle.output.specs.Text.{text_places};
 ghost use Rattle.output.specs.Answered.{Answered};
 
 use crate::TEXT_PLACES;
@@ -42,7 +41,7 @@ pub fn put_answer(
 }
 
 // Writes a line for each step of the plan, from the source on.
-#[tactic(auto, using(crate::proofs::AnswerLaws::stepping))]
+#[tactic(auto, using(crate::proofs::AnswerLaws::stepping_more))]
 fn put_steps(
     network: &[u8],
     distances: &[u32],
