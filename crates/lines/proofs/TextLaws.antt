@@ -1,4 +1,4 @@
--- What a line reads once bytes were put in front, and how long fields are.
+-- What a line reads once bytes were put in front, and while its numbers are.
 use Rattle.std.proofs.Common.{◌≡◌, ℕ, ◌+◌, ◌-◌, ◌*◌, ◌≤◌, List, [], ◌∷◌, ◌++◌, length, take, drop, ◌∙◌, refl, sym, ap, append_assoc, append-nil, arith}
 use Rattle.std.proofs.lemmas.List.{length-append, length-drop, length-take-le, take-take, take-replicate, drop-drop, drop_at, length_push}
 use Rattle.std.proofs.lemmas.Slice.{take-put_mid_below}

@@ -27,7 +27,7 @@ const TABLE_PLACES: usize = 2048;
 pub fn write_text(input: &[u8], text: &mut [u8]) -> usize
     ensures { Printed input.now text.old text.new result }
 {
-    let Some(room) = text.first_chunk_mut() else {
+    let Some(room) = text.first_chunk_mut::<TEXT_PLACES>() else {
         return 0;
     };
     write_taken(&input[..MOST_INPUT.min(input.len())], room)
