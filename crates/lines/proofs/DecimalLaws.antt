@@ -5,7 +5,7 @@ use native.Mathlib.Decide.{dec_lt}
 use native.Mathlib.Nat.{pow-succ'}
 use mathlib.Core.Path.{◌≡◌, sym, ◌∙◌, ap}
 use mathlib.Core.Bool.{cond}
-use mathlib.Core.List.{List, [], ◌∷◌, ◌++◌}
+use mathlib.Core.List.{List, [], ◌∷◌, ◌++◌, append_assoc}
 use lib.ListN.{length, length-append}
 use lib.Dec.{ltb}
 use borrow.Author.Tests.{lt-ltb, le-ltb}
@@ -53,3 +53,6 @@ digits_length (suc places) x =
 
 pub decimal_length : (x : ℕ) → (1 ≤ length (decimal x)) × (length (decimal x) ≤ 20)
 decimal_length x = digits_length 19 x
+
+-- what a proof about digits asks for
+pub ruleset decimals = (append_assoc, length-append, decimal_small, decimal_tenth, decimal_length)

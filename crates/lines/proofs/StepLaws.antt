@@ -1,27 +1,15 @@
 -- The steps of a finish, one by one.
-use Prim.Native.Nat.{ℕ, ◌+◌, ◌-◌, ◌*◌, ◌≤◌, ◌<◌}
+use Prim.Native.Nat.{ℕ, ◌-◌}
 use native.Mathlib.Omega.{arith}
 use mathlib.Core.Path.{◌≡◌, ◌∙◌}
 use mathlib.Core.List.{List, ◌∷◌}
-use lib.ListN.{length}
 use borrow.Author.Tests.{lt-ltb, le-ltb}
-use Rattle.rules.specs.Limits.{first_drive, most_nodes, most_riders}
-use Rattle.rules.specs.Network.{node_count, link_start, to}
+use Rattle.rules.specs.Limits.{first_drive, most_riders}
+use Rattle.rules.specs.Network.{to}
 use Rattle.rules.specs.Plans.{Finish, without, meet, drive}
 use Rattle.rules.specs.Program.{node_after}
-use Rattle.rules.specs.Rooms.{distance_places}
-use Rattle.rules.proofs.RoomLaws.{place_within}
 use Rattle.finish.proofs.Sets.{has_below, without_less}
 use Rattle.lines.specs.Steps.{Takes, Rides}
-
-module _ {network : List ℕ} {v step : ℕ} (takes : Takes network v step) where
-  -- the link that is driven lies within the record
-  pub drive_within : first_drive ≤ step → link_start (step - first_drive) + 8 ≤ length network
-  drive_within high = omega (arith, takes.sound.whole, takes.drives high)
-
-  -- the walking distance lies within the room
-  pub distance_within : {n : ℕ} → step < first_drive → n ≡ node_count network → step * n + v < distance_places most_nodes most_riders
-  distance_within {n} low e = omega (arith, takes.sound.nodes, place_within {n = n} {v = v} (takes.meets low) (omega (arith, takes.node)))
 
 module _ {network : List ℕ} {v step : ℕ} {steps : List ℕ} (rides : Rides network v (step ∷ steps)) where
   pub rides_takes : Takes network v step

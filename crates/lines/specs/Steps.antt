@@ -1,9 +1,16 @@
 -- Steps that the bus can take from where it stands.
-use Rattle.std.specs.Prelude.{ℕ, ◌-◌, ◌^◌, ◌≤◌, ◌<◌, List}
+use Rattle.std.specs.Prelude.{ℕ, ◌+◌, ◌-◌, ◌^◌, ◌≤◌, ◌<◌, ◌≡◌, List}
 use Rattle.rules.specs.Limits.{first_drive, most_riders}
 use Rattle.rules.specs.Network.{SoundNetwork, node_count, link_count}
 use Rattle.rules.specs.Plans.{Finish}
 use Rattle.rules.specs.declared.Request.{Request}
+use Rattle.lines.specs.declared.step.Step.{Step}
+use Rattle.lines.specs.declared.step.Step.TheVariants.{Meet, Drive}
+
+-- The number stands for the step in a plan.
+abbrev pub IsNumbered : ℕ → Step → Type 0
+IsNumbered number (Meet rider) = (rider ≡ number) × (rider < first_drive)
+IsNumbered number (Drive link) = first_drive + link ≡ number
 
 -- The bus stands at v and takes a step that is one.
 pub record Takes (network : List ℕ) (v step : ℕ) : Type 0 where

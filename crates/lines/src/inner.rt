@@ -1,2 +1,2 @@
 // The lines of a plan's steps, for a plan that the search has written.
-pub use crate::step::{node_after, step_line};
+pub use crate::step::{Step, node_after, step_line};

@@ -1,7 +1,9 @@
-// A text that grows at its front: its bytes stand at the end of their room.
-ghost use Rattle.std.specs.Prelude.{◌+◌, ◌*◌, ◌<◌, [], ◌∷◌, length};
+// A line that grows at its front: its bytes stand at the end of their room.
+ghost use Rattle.std.specs.Prelude.{◌≡◌, ◌+◌, ◌*◌, ◌<◌, ◌≤◌, [], ◌∷◌, ◌++◌, length};
 ghost use Rattle.rules.specs.Program.{decimal, line};
-ghost use Rattle.lines.specs.Text.{longest_line, longest_field, Room, Added, Reads};
+ghost use Rattle.lines.specs.Limits.{longest_line, longest_field};
+
+use std::marker::Model;
 
 // How many bytes a line may have.
 pub const LONGEST_LINE: usize = 96;
@@ -9,77 +11,89 @@ pub const LONGEST_LINE: usize = 96;
 // The text is the bytes from the start on.
 #[derive(Clone, Copy)]
 pub struct Line {
-    pub bytes: [u8; LONGEST_LINE],
-    pub start: usize,
+    bytes: [u8; LONGEST_LINE],
+    start: usize,
 }
 
-// The line of a word and its numbers, made from the last number on.
-pub fn line_of(word: &[u8], numbers: &[u64]) -> Line
-    requires { length word.now + longest_field * length numbers.now < longest_line }
-    ensures { Reads result (line word.now numbers.now) }
-{
-    let mut i = numbers.len();
-    let mut text = line_feed();
-    while 0 < i {
-        i -= 1;
-        text = field(text, numbers[i]);
+// Clauses see the text. All before it is zero, so that no two lines have one text.
+impl Model for Line {
+    ghost use Rattle.std.specs.Prelude.{ℕ, List};
+
+    ghost Value = { List ℕ };
+
+    ghost use Rattle.lines.specs.Text.{text_of, line_of, Reads, reads_back};
+
+    ghost view = { text_of };
+
+    ghost invariant = { λ l. Reads l (text_of l) };
+
+    ghost inverse = { line_of };
+
+    ghost inverse_ok = { reads_back };
+}
+
+impl Line {
+    // The line of a word and its numbers, made from the line feed backwards.
+    #[tactic(auto, using(crate::proofs::TextLaws::spelt_none, crate::proofs::TextLaws::spelt_more))]
+    pub(crate) fn of(word: &[u8], numbers: &[u64]) -> Self
+        requires { length word.now + longest_field * length numbers.now < longest_line }
+        ensures { result ≡ line word.now numbers.now }
+    {
+        let mut line = Line::empty();
+        line.put(b"\n");
+        for &x in numbers.iter().rev() {
+            line.put_field(x);
+        }
+        line.put(word);
+        line
     }
-    spelt(text, word)
-}
 
-// The text that only ends a line.
-fn line_feed() -> Line
-    ensures { Reads result (10 ∷ []) }
-{
-    let mut bytes = [0u8; LONGEST_LINE];
-    bytes[LONGEST_LINE - 1] = 10;
-    Line {
-        bytes,
-        start: LONGEST_LINE - 1,
+    // The text.
+    pub fn as_bytes(&self) -> &[u8]
+        ensures says { result.now ≡ self.now }
+        ensures few { length self.now ≤ longest_line }
+    {
+        &self.bytes[self.start..]
     }
-}
 
-// A space and a number, in front.
-fn field(line: Line, x: u64) -> Line
-    requires { Room longest_field line }
-    ensures { Added line (32 ∷ decimal x) result }
-{
-    put(decimal(line, x), 32)
-}
-
-// A number's digits, in front, from the last one on.
-fn decimal(line: Line, x: u64) -> Line
-    requires { Room (length (decimal x)) line }
-    ensures { Added line (decimal x) result }
-{
-    let text = put(line, 48 + (x % 10) as u8);
-    if x < 10 {
-        return text;
+    fn empty() -> Self
+        ensures { result ≡ [] }
+    {
+        Line {
+            bytes: [0; LONGEST_LINE],
+            start: LONGEST_LINE,
+        }
     }
-    decimal(text, x / 10)
-}
 
-// A word, in front, from its last byte on.
-fn spelt(line: Line, word: &[u8]) -> Line
-    requires { Room (length word.now) line }
-    ensures { Added line word.now result }
-{
-    let mut i = word.len();
-    let mut text = line;
-    while 0 < i {
-        i -= 1;
-        text = put(text, word[i]);
+    // A space and a number, in front.
+    #[tactic(auto, using(crate::proofs::DecimalLaws::decimals))]
+    fn put_field(&mut self, x: u64)
+        requires { longest_field + length self.old ≤ longest_line }
+        ensures { self.new ≡ 32 ∷ decimal x ++ self.old }
+    {
+        self.put_decimal(x);
+        self.put(b" ");
     }
-    text
-}
 
-// One byte, in front.
-fn put(line: Line, byte: u8) -> Line
-    requires { Room 1 line }
-    ensures { Added line (byte ∷ []) result }
-{
-    let start = line.start - 1;
-    let mut bytes = line.bytes;
-    bytes[start] = byte;
-    Line { bytes, start }
+    // A number's digits, in front, from the last one on. Not by `write!`: its clauses let it fail, and ok_line and the others can't.
+    #[tactic(auto, using(crate::proofs::DecimalLaws::decimals))]
+    fn put_decimal(&mut self, x: u64)
+        requires { length (decimal x) + length self.old ≤ longest_line }
+        ensures { self.new ≡ decimal x ++ self.old }
+    {
+        self.put(&[b'0' + (x % 10) as u8]);
+        if 10 <= x {
+            self.put_decimal(x / 10);
+        }
+    }
+
+    // Bytes, in front.
+    fn put(&mut self, front: &[u8])
+        requires { length front.now + length self.old ≤ longest_line }
+        ensures { self.new ≡ front.now ++ self.old }
+    {
+        let end = self.start;
+        self.start -= front.len();
+        self.bytes[self.start..end].copy_from_slice(front);
+    }
 }

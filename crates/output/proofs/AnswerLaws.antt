@@ -1,5 +1,5 @@
 -- The search's answer, written line by line.
-use Prim.Native.Nat.{ℕ, suc, ◌+◌, ◌-◌, ◌*◌, ◌≤◌, ◌<◌}
+use Prim.Native.Nat.{ℕ, suc, ◌+◌, ◌*◌, ◌≤◌, ◌<◌}
 use native.Mathlib.Omega.{arith}
 use native.Mathlib.Numerals.{add-one}
 use mathlib.Core.Path.{◌≡◌, refl, sym, ◌∙◌, ap, subst, subst⁻¹}
@@ -19,16 +19,12 @@ use Rattle.output.specs.Text.{text_places}
 use Rattle.output.specs.Answered.{Printable, Answered, Stepping}
 use Rattle.rules.proofs.PlanLaws.{all_riders_below, few_sets}
 use Rattle.rules.specs.Limits.{most_nodes, most_riders}
-use Rattle.lines.specs.Text.{Reads, text_of, longest_line}
-use Rattle.lines.specs.declared.text.Line.{Line}
+use Rattle.lines.specs.Limits.{longest_line}
 use Rattle.lines.specs.Steps.{Takes, Rides}
 use Rattle.lines.proofs.StepLaws.{rides_takes, rides_on}
-use Rattle.rules.proofs.PuttingLaws.{put_nothing, put_then}
+use Rattle.rules.proofs.PuttingLaws.{put_then}
 
 module _ {network distances : List ℕ} {start : ℕ} {steps : List ℕ} {at : ℕ} {before : List ℕ} where
-  pub stepping_none : at ≤ length before → Rides network start steps → Stepping network distances start steps at before before at start 0
-  stepping_none room rides = record { text = []; put = put_nothing before room; whole = refl; rides = rides; short = omega arith }
-
   module _ {after : List ℕ} {end v i : ℕ} (so : Stepping network distances start steps at before after end v i) where
     module _ (within : i < length steps) where
       left : drop i steps ≡ get_or steps i 0 ∷ drop (suc i) steps
@@ -37,23 +33,23 @@ module _ {network distances : List ℕ} {start : ℕ} {steps : List ℕ} {at : �
       next : Rides network v (get_or steps i 0 ∷ drop (suc i) steps)
       next = subst (λ (rest : List ℕ). Rides network v rest) left so.rides
 
-      pub step_takes : Takes network v (get_or steps i 0)
-      step_takes = rides_takes next
+      pub step_takes : {step : ℕ} → step ≡ get_or steps i 0 → Takes network v step
+      step_takes e = rw e (rides_takes next)
 
       -- one line more
-      pub stepping_more : {l : Line} {later : List ℕ} {stop x : ℕ} → Reads l (step_line network distances v (get_or steps i 0))
-          → Put end (text_of l) after later stop → x ≡ node_after network v (get_or steps i 0)
+      pub stepping_more : {line later : List ℕ} {stop x : ℕ} → line ≡ step_line network distances v (get_or steps i 0)
+          → Put end line after later stop → length line ≤ longest_line → x ≡ node_after network v (get_or steps i 0)
           → Stepping network distances start steps at before later stop x (i + 1)
       unfolding step_lines
-      stepping_more {l} reads put e =
+      stepping_more {line} says put few e =
           record {
-            text = so.text ++ text_of l;
+            text = so.text ++ line;
             put = put_then so.put put;
             whole =
-                rw (e, add-one, reads.says) (append_assoc so.text _ _ ∙ ap
+                rw (e, add-one, says) (append_assoc so.text _ _ ∙ ap
                 (λ (rest : List ℕ). so.text ++ step_lines network distances v rest) (sym left) ∙ so.whole);
             rides = rw (e, add-one) (rides_on next);
-            short = omega (arith, so.short, length-append so.text (text_of l), ap length reads.says, reads.start);
+            short = omega (arith, so.short, length-append so.text line);
           }
 
     pub stepping_done : length steps ≤ i → Put at (step_lines network distances start steps) before after end
@@ -100,37 +96,28 @@ found {network} request {before} {after} {answer} {cost} {count} (planned plan c
     taken : take count after.steps ≡ plan
     taken = ap (λ (k : ℕ). take k after.steps) many ∙ ap (take (length plan)) written ∙ take-append_seam plan (drop (length plan) before.steps)
 
-pub rides_from : {network : List ℕ} {v x : ℕ} (steps : List ℕ) (count : ℕ) → x ≡ v → Rides network v (take count steps)
-    → Rides network x (take (count - 0) steps)
-rides_from {network} steps count e rides = rw (e, whole) rides
-  where
-    whole : count - 0 ≡ count
-    whole = omega arith
-
 pub answered : {network : List ℕ} (request : List ℕ) {before after : Lent} {answer : Outcome}
     → distance_places most_nodes most_riders ≤ length after.distances → length after.steps ≤ step_places most_nodes most_riders
     → Searched network request before after answer → Answered network request after.distances after.steps answer
 answered request room few searched = record { room = room; few = few; found = λ cost count e. found request searched e }
 
 module _ (network distances steps : List ℕ) (source : ℕ) (answer : Outcome) {before after : List ℕ} {end : ℕ} where
-  pub put_refused : {number place : ℕ} {l : Line} → answer ≡ refuses number place → Reads l (line refused_word (number ∷ place ∷ []))
-      → Put 0 (text_of l) before after end → Put 0 (answer_text network source answer distances steps) before after end
+  pub put_refused : {number place : ℕ} {l : List ℕ} → answer ≡ refuses number place → l ≡ line refused_word (number ∷ place ∷ [])
+      → Put 0 l before after end → Put 0 (answer_text network source answer distances steps) before after end
   unfolding answer_text
-  put_refused e reads put = rw (e, ← reads.says) put
+  put_refused e says put = rw (e, ← says) put
 
-  pub put_planned : {cost count mid x : ℕ} {between : List ℕ} {l : Line} → answer ≡ gives (cost ∷ count ∷ [])
-      → Reads l (line ok_word (cost ∷ count ∷ [])) → Put 0 (text_of l) before between mid → x ≡ source
-      → Put mid (step_lines network distances x (take (count - 0) steps)) between after end
+  pub put_planned : {cost count mid x : ℕ} {between l : List ℕ} → answer ≡ gives (cost ∷ count ∷ [])
+      → l ≡ line ok_word (cost ∷ count ∷ []) → Put 0 l before between mid → x ≡ source
+      → Put mid (step_lines network distances x (take count steps)) between after end
       → Put 0 (answer_text network source answer distances steps) before after end
   unfolding answer_text
-  put_planned {count = count} e reads put starts behind =
-      let all : count - 0 ≡ count = omega arith in
+  put_planned {count = count} e says put starts behind =
       rw e (subst (λ (front : List ℕ). Put 0 (front ++ step_lines network distances source (take count steps)) before after end)
-      reads.says (put_then put (rw (starts, all) at behind)))
+      says (put_then put (rw starts at behind)))
 
 -- The line of the plan leaves room for those of its steps.
-pub steps_room : {count mid : ℕ} (steps : List ℕ) {text before between : List ℕ} {l : Line} → count ≤ length steps
-    → length steps ≤ step_places most_nodes most_riders → Reads l text → Put 0 (text_of l) before between mid
-    → text_places ≤ length before → mid + longest_line * length (take (count - 0) steps) ≤ length between
-steps_room {count} steps within few reads put room =
-    omega (arith, put.ends, put.size, ap length reads.says, reads.start, length-take-le (count - 0) steps (omega arith))
+pub steps_room : {count mid : ℕ} (steps : List ℕ) {line before between : List ℕ} → count ≤ length steps
+    → length steps ≤ step_places most_nodes most_riders → length line ≤ longest_line → Put 0 line before between mid
+    → text_places ≤ length before → mid + longest_line * length (take count steps) ≤ length between
+steps_room {count} steps within few short put room = omega (arith, put.ends, put.size, length-take-le count steps within)

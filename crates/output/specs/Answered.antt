@@ -6,7 +6,7 @@ use Rattle.rules.specs.Program.{step_lines}
 use Rattle.rules.specs.Limits.{most_nodes, most_riders}
 use Rattle.rules.specs.Rooms.{Put, distance_places, step_places}
 use Rattle.lines.specs.Steps.{Rides}
-use Rattle.lines.specs.Text.{longest_line}
+use Rattle.lines.specs.Limits.{longest_line}
 
 -- A plan was found: its request has a source, its steps lie within their room, and the bus rides them from the source.
 pub record Printable (network request steps : List ℕ) (count : ℕ) : Type 0 where

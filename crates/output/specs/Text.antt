@@ -3,7 +3,7 @@ use Rattle.std.specs.Prelude.{ℕ, ◌+◌, ◌*◌, ◌<◌, ◌≤◌, ◌≡�
 use Rattle.rules.specs.Program.{PlanText, ProgramText}
 use Rattle.rules.specs.Rooms.{Written, Put, step_places}
 use Rattle.rules.specs.Limits.{most_nodes, most_riders}
-use Rattle.lines.specs.Text.{longest_line}
+use Rattle.lines.specs.Limits.{longest_line}
 
 -- one line for the plan and one for each of its steps
 abbrev pub text_places : ℕ

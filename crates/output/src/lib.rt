@@ -27,28 +27,23 @@ const TABLE_PLACES: usize = 2048;
 pub fn write_text(input: &[u8], text: &mut [u8]) -> usize
     ensures { Printed input.now text.old text.new result }
 {
-    if text.len() < TEXT_PLACES {
+    let Some(room) = text.first_chunk_mut::<TEXT_PLACES>() else {
         return 0;
-    }
-    if MOST_INPUT < input.len() {
-        return write_taken(&input[0..MOST_INPUT], text);
-    }
-    write_taken(input, text)
+    };
+    write_taken(&input[..MOST_INPUT.min(input.len())], room)
 }
 
 // Parts what is taken of the input into the network and the request behind it.
-fn write_taken(taken: &[u8], text: &mut [u8]) -> usize
-    requires { text_places ≤ length text.old }
+fn write_taken(taken: &[u8], text: &mut [u8; TEXT_PLACES]) -> usize
     ensures { PutPlan (take (network_size taken.now) taken.now)
         (drop (network_size taken.now) taken.now) text.old text.new result }
 {
     let size = records::network_size(taken);
-    write_plan(&taken[0..size], &taken[size..], text)
+    write_plan(&taken[..size], &taken[size..], text)
 }
 
 // Makes room for the search, and writes what it answers.
-fn write_plan(network: &[u8], request: &[u8], text: &mut [u8]) -> usize
-    requires { text_places ≤ length text.old }
+fn write_plan(network: &[u8], request: &[u8], text: &mut [u8; TEXT_PLACES]) -> usize
     ensures { PutPlan network.now request.now text.old text.new result }
 {
     let mut distances = [0u32; DISTANCE_PLACES];

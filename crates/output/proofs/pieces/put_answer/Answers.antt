@@ -1,8 +1,9 @@
 use native.Mathlib.Omega.{arith}
 use mathlib.Core.Path.{◌∙◌, ap}
+use Rattle.std.proofs.lemmas.List.{length-take-le}
 use Rattle.rules.specs.Request.{source}
 use Rattle.rules.specs.Answers.{planned_outcome}
-use Rattle.output.proofs.AnswerLaws.{rides_from, put_refused, put_planned, steps_room}
+use Rattle.output.proofs.AnswerLaws.{put_refused, put_planned, steps_room}
 use Rattle.output.proofs.pieces.put_answer.Goals as goal
 
 pub returns-in_default : goal.returns-in_default
@@ -10,29 +11,30 @@ returns-in_default c =
     put_refused c.args.network.now c.args.distances.now c.args.steps.now
     (source c.args.request.now) (planned_outcome c.args.answer)
     (ap planned_outcome (c.in_default.is ∙ c.in-Refused.is))
-    c.refused_line-line.ensures c.put_line.ensures
+    (rw c.from.ensures at c.refused_line-line.ensures) c.put_line.ensures.put
 
 pub request_source-start-requires : goal.request_source-start-requires
 request_source-start-requires c =
-    omega (arith, (c.requires.0.found _ _ (ap planned_outcome c.in-Plan.is)).long)
+    omega (arith, (c.requires.found _ _ (ap planned_outcome c.in-Plan.is)).long)
 
 pub slice_bounds-put_steps-end : goal.slice_bounds-put_steps-end
 slice_bounds-put_steps-end c =
-    omega (arith, (c.requires.0.found _ _ (ap planned_outcome c.in-Plan.is)).within)
+    omega (arith, length-take-le c.in-Plan.count c.args.steps.now (c.requires.found _ _ (ap planned_outcome c.in-Plan.is)).within)
 
 pub put_steps-requires : goal.put_steps-requires
 put_steps-requires c =
-    let found = c.requires.0.found _ _ (ap planned_outcome c.in-Plan.is) in (
-      rides_from c.args.steps.now c.in-Plan.count c.request_source-start.ensures.value
-          found.rides,
-      c.requires.0.room,
-      steps_room c.args.steps.now found.within c.requires.0.few
-          c.ok_line.ensures c.put_line-end.ensures c.requires.1,
-    )
+    let found = c.requires.found _ _ (ap planned_outcome c.in-Plan.is) in
+    record {
+      rides = rw c.request_source-start.ensures.value found.rides;
+      distances = c.requires.room;
+      room =
+          steps_room c.args.steps.now found.within c.requires.few
+          c.put_line-end.ensures.few c.put_line-end.ensures.put (omega arith);
+    }
 
 pub returns : goal.returns
 returns c =
     put_planned c.args.network.now c.args.distances.now c.args.steps.now
     (source c.args.request.now) (planned_outcome c.args.answer)
-    (ap planned_outcome c.in-Plan.is) c.ok_line.ensures c.put_line-end.ensures
+    (ap planned_outcome c.in-Plan.is) c.ok_line.ensures c.put_line-end.ensures.put
     c.request_source-start.ensures.value c.put_steps.ensures
