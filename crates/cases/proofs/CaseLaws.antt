@@ -11,8 +11,6 @@ use Rattle.rules.specs.Routes.{Price}
 use Rattle.rules.specs.Plans.{all_riders}
 use Rattle.rules.specs.Rooms.{HoldsFinish}
 use Rattle.rules.specs.declared.Request.{Request}
-use Rattle.rules.specs.declared.Verdict.{Verdict}
-use Rattle.rules.specs.declared.Verdict.TheVariants.{Accepted, Refused}
 use Rattle.rules.proofs.SoundRequestLaws.{records_sound, value_sound}
 use Rattle.rules.proofs.RiderLaws.{rider_held}
 use Rattle.rules.proofs.PlanLaws.{all_riders_below}
@@ -26,10 +24,12 @@ use Rattle.cases.proofs.DistanceLaws.{distances_hold}
 use Rattle.cases.proofs.MoveLaws.{DistancesHold}
 use Rattle.cases.proofs.TableLaws.{tabled, reads_right}
 use Rattle.cases.proofs.PriceLaws.{tested_price}
+use Rattle.rules.specs.Checks.{Verdict, Accepted}
+use Rattle.std.specs.Prelude.{Ok, Err}
 
 accepts_true : (v : Verdict) → accepts v ≡ true → v ≡ Accepted
-accepts_true Accepted e = refl
-accepts_true (Refused r) e = absurd (false≢true e)
+accepts_true (Ok _) e = refl
+accepts_true (Err r) e = absurd (false≢true e)
 
 module _ {network : List ℕ} {q : Request} {D T : ℕ → ℕ → ℕ}
     (sound : SoundNetwork network) (value : SoundValue (node_count network) q) (walking : DistancesHold network q D)

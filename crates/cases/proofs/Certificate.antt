@@ -6,7 +6,7 @@ use mathlib.Core.List.{List, [], ◌∷◌}
 use lib.Dec.{ltb}
 use lib.ListN.{length, get_or}
 use Rattle.rules.specs.Limits.{closed, first_drive, step_range, packed_step}
-use Rattle.rules.specs.Checks.{first_of, each}
+use Rattle.rules.specs.Checks.{first_of, each, Verdict}
 use Rattle.rules.specs.Numbers.{number, bytes_of, twos_of}
 use Rattle.rules.specs.Network.{opening_checks, size_checks, network_checks, node_count, link_count, from, to, drive, walk}
 use Rattle.rules.specs.Request.{count_checks, node_checks, weight_checks, request_checks, request_verdict, seven_places, request_value}
@@ -16,11 +16,10 @@ use Rattle.rules.specs.Routes.{node_at, sum}
 use Rattle.rules.specs.Plans.{without, all_riders}
 use Rattle.rules.specs.Rooms.{no_finish}
 use Rattle.rules.specs.declared.Request.{Request}
-use Rattle.rules.specs.declared.Verdict.{Verdict}
-use Rattle.rules.specs.declared.Verdict.TheVariants.{Accepted, Refused}
 use Rattle.right.specs.Reading.{plan_value}
 use Rattle.cases.specs.Cases.{Result, plan, none, Case, asked, row_distance, row_value, distance_need, table_need}
 use Rattle.cases.proofs.Tests.{Test, at_most, below, equal, both, either, implies, for_each, for_some, all_below, any_below, passes}
+use Rattle.std.specs.Prelude.{Ok, Err}
 
 -- ---- the ways to walk link k: a test of the start and the end of each, and of some
 module _ (network : List ℕ) (k : ℕ) (test : ℕ → ℕ → Test) where
@@ -177,8 +176,8 @@ case_test c =
     (rules_test c.network (asked c) (row_distance c) (row_value c) c.result)
 
 abbrev pub accepts : Verdict → Bool
-accepts Accepted = true
-accepts (Refused r) = false
+accepts (Ok _) = true
+accepts (Err r) = false
 
 unfoldable pub records_pass : Case → Bool
 unfolding first_of each number opening_checks size_checks network_checks count_checks node_checks weight_checks request_checks request_verdict

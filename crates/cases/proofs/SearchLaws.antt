@@ -7,12 +7,11 @@ use lib.ListN.{length, get_or, take, drop, length-append, length-drop, length-re
 use lib.Seq.{take-append_seam, drop-append_seam}
 use native.Mathlib.Nat.{le_refl}
 use native.Mathlib.Omega.{arith}
-use Rattle.rules.specs.Checks.{first_of}
+use Rattle.rules.specs.Checks.{first_of, Accepted}
 use Rattle.rules.specs.Request.{request_verdict, record_checks}
 use Rattle.rules.specs.Routes.{RiderHolds}
 use Rattle.rules.specs.Rooms.{Kept, Distances, HoldsFinish, Table, Lent}
 use Rattle.rules.specs.Answers.{Outcome, search_checks, hopeless, planned}
-use Rattle.rules.specs.declared.Verdict.TheVariants.{Accepted}
 use Rattle.rules.proofs.Clash.{clash}
 use Rattle.rules.proofs.Order.{front_passed}
 use Rattle.rules.proofs.RoomLaws.{place_within, rooms_enough}

@@ -6,7 +6,7 @@ use Rattle.rules.specs.Routes.{RiderHolds}
 use Rattle.rules.specs.Plans.{RightPlan, NoPlan}
 use Rattle.rules.specs.Rooms.{HoldsFinish, distance_places, table_places}
 use Rattle.rules.specs.declared.Request.{Request}
-use Rattle.rules.specs.declared.Verdict.TheVariants.{Accepted}
+use Rattle.rules.specs.Checks.{Accepted}
 
 -- a plan with its cost, or 24
 pub data Result : Type 0 where

@@ -12,7 +12,7 @@ ghost use Rattle.output.specs.Answered.{Answered};
 use crate::TEXT_PLACES;
 use lines::Line;
 use lines::inner::{node_after, step_line};
-use rules::Planned;
+use rules::{Plan, Refusal};
 
 // Writes the plan with its steps, or the refusal.
 pub fn put_answer(
@@ -20,24 +20,21 @@ pub fn put_answer(
     request: &[u8],
     distances: &[u32],
     steps: &[u16],
-    answer: Planned,
+    answer: Result<Plan, Refusal>,
     text: &mut [u8; TEXT_PLACES],
 ) -> usize
     requires { Answered network.now request.now distances.now steps.now (planned_outcome answer) }
     ensures { Put 0 (answer_text network.now (source request.now) (planned_outcome answer)
         distances.now steps.now) text.old text.new result }
 {
-    let Planned::Plan { cost, count } = answer else {
-        let Planned::Refused(refusal) = answer else {
-            // An answer is one of the two, so this is never taken.
-            return 0;
-        };
-        let line = lines::refused_line(u64::from(refusal.number), refusal.place as u64);
-        return put_line(line, text, 0);
+    let Ok(plan) = answer else {
+        let refusal = answer.unwrap_err();
+        let number = refusal.fault.number();
+        return put_line(lines::refused_line(u64::from(number), refusal.place as u64), text, 0);
     };
-    let end = put_line(lines::ok_line(cost, count as u64), text, 0);
+    let end = put_line(lines::ok_line(plan.cost, plan.count as u64), text, 0);
     let start = records::inner::request_source(request);
-    put_steps(network, distances, start, &steps[..count], text, end)
+    put_steps(network, distances, start, &steps[..plan.count], text, end)
 }
 
 // Writes a line for each step of the plan, from the source on.
