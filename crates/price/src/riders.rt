@@ -1,8 +1,9 @@
 // Riders: which position of a drive is nearest to each of them.
-ghost use Rattle.std.specs.Prelude.{◌<◌, ◌≡◌};
+ghost use Rattle.std.specs.Prelude.{◌<◌, ◌≡◌, IfSome, IsNone};
 ghost use Rattle.rules.specs.Checks.{Accepted};
 ghost use Rattle.rules.specs.Request.{rider_count_of};
-ghost use Rattle.price.specs.Near.{Nearest, closer_of};
+ghost use Rattle.rules.specs.Routes.{Meeting, Stranded};
+ghost use Rattle.price.specs.Near.{closer_of};
 ghost use Rattle.price.specs.Meetings.{Prices};
 
 use crate::drive::Drive;
@@ -32,20 +33,20 @@ pub fn meet_riders(drive: &Drive) -> Result<RoutePrice, Refusal>
     let mut meetings = [0u16; MOST_RIDERS];
     let mut price = drive.cost();
     for j in 0..request.rider_count {
-        let spot = nearest(drive, j);
-        if spot.distance == NO_DISTANCE {
+        let Some(spot) = nearest(drive, j) else {
             return Err(Fault::NoWalk.at(j));
-        }
+        };
         meetings[j] = spot.position as u16;
         price += request.weights[j] * spot.distance as u64;
     }
     Ok(RoutePrice { price, meetings })
 }
 
-// The earliest position to which rider j walks least; its distance is none where rider j can walk to no position.
-fn nearest(drive: &Drive, j: usize) -> Spot
+// The earliest position to which rider j walks least, if rider j can walk to any.
+fn nearest(drive: &Drive, j: usize) -> Option<Spot>
     requires { j < rider_count_of drive.now.job.now.request }
-    ensures { Nearest drive.now.job.now.network drive.now.job.now.request j drive.now.links.now result }
+    ensures some { IfSome result (λ spot. Meeting drive.now.job.now.network drive.now.job.now.request drive.now.links.now j spot.position spot.distance) }
+    ensures none { IsNone result → Stranded drive.now.job.now.network drive.now.job.now.request drive.now.links.now j }
 {
     let job = drive.job;
     let mut distances = [0u32; MOST_NODES];
@@ -58,7 +59,10 @@ fn nearest(drive: &Drive, j: usize) -> Spot
         let node = job.network.to(link as usize);
         spot = closer(spot, i + 1, distances[node]);
     }
-    spot
+    if spot.distance == NO_DISTANCE {
+        return None;
+    }
+    Some(spot)
 }
 
 // The position that is given where it is nearer than the spot, else the spot.
