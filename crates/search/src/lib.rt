@@ -55,8 +55,8 @@ fn rooms_verdict(
     requires { (1 ≤ n) × (n ≤ most_nodes) × (l ≤ most_riders) }
     ensures { result ≡ first_of (room_checks n l distances table steps) }
 {
-    let rows = rider_bit(l as u32) as usize;
+    let sets = rider_bit(l as u32) as usize;
     check(distances < l * n, Fault::DistancesRoom, 0)?;
-    check(table < rows * n, Fault::TableRoom, 0)?;
+    check(table < sets * n, Fault::TableRoom, 0)?;
     check(steps < l + (l + 1) * (n - 1), Fault::StepsRoom, 0)
 }

@@ -77,6 +77,7 @@ impl<'a> Bus<'a> {
     {
         let here = self.value();
         let mut left = self.riders;
+        // A set of riders is a number: its ones are counted, and the lowest is taken out.
         while left.count_ones() != 0 {
             let next = self.tables.first_meeting(self.riders, left, self.node);
             if next.step.saturating_add(next.rest) == here {
@@ -85,10 +86,8 @@ impl<'a> Bus<'a> {
                     riders: next.riders,
                     node: self.node,
                 };
-                return Some(Move {
-                    step: next.rider as usize,
-                    bus,
-                });
+                let step = next.rider as usize;
+                return Some(Move { step, bus });
             }
             left = next.left;
         }
@@ -108,17 +107,16 @@ impl<'a> Bus<'a> {
             .find(|&k| self.drive_value(k) == here)
             .unwrap();
         let bus = Bus {
-            tables: self.tables,
+            tables,
             riders: self.riders,
             node: network.to(k),
         };
-        Move {
-            step: FIRST_DRIVE + k,
-            bus,
-        }
+        let step = FIRST_DRIVE + k;
+        Move { step, bus }
     }
 
     // What it takes to drive link k and then to finish, or 2^64-1 where the bus cannot drive it from here.
+    #[tactic(auto, unfolding(crate::specs::Steps::driving_step))]
     fn drive_value(&self, k: usize) -> u64
         requires { k < link_count (network_of self.now) }
         ensures { result ≡ min (drive_value self.now k) no_finish }
@@ -126,10 +124,7 @@ impl<'a> Bus<'a> {
         let tables = self.tables;
         let job = tables.job;
         let cost = job.network.drive(k);
-        if job.network.from(k) != self.node {
-            return NO_FINISH;
-        }
-        if CLOSED <= cost {
+        if job.network.from(k) != self.node || CLOSED <= cost {
             return NO_FINISH;
         }
         let behind = value(job.network, tables.table, self.riders, job.network.to(k));

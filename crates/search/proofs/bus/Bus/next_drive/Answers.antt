@@ -27,9 +27,9 @@ to-requires c =
     let found = drive_found c.args.self.now c.requires.0 c.requires.2 _ c.unwrap-k.ensures (lowest (goal.at.to-requires c).After-find) in
     rw (network (goal.at.to-requires c).After-find) found.0
 
-pub overflow_add-result : goal.overflow_add-result
-overflow_add-result c =
-    let found = drive_found c.args.self.now c.requires.0 c.requires.2 _ c.unwrap-k.ensures (lowest (goal.at.overflow_add-result c).After-find) in
+pub overflow_add-step : goal.overflow_add-step
+overflow_add-step c =
+    let found = drive_found c.args.self.now c.requires.0 c.requires.2 _ c.unwrap-k.ensures (lowest (goal.at.overflow_add-step c).After-find) in
     omega (arith, found.0, c.args.self.now.tables.now.job.now.sound.links)
 
 pub returns : goal.returns
