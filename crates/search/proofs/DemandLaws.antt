@@ -6,13 +6,12 @@ use mathlib.Core.Path.{◌≡◌, refl, ◌∙◌}
 use mathlib.Core.Logic.{◌⊎◌, ◌↔◌, inl, inr}
 use mathlib.Core.List.{List, [], ◌∷◌}
 use lib.ListN.{length}
-use Rattle.rules.specs.Checks.{first_of}
+use Rattle.rules.specs.Checks.{first_of, number_of, Accepted}
 use Rattle.rules.specs.Network.{node_count}
 use Rattle.rules.specs.Request.{record_checks, request_verdict, request_value, SoundValue, bus_weight_of, rider_count_of}
 use Rattle.rules.specs.Plans.{RightPlan}
 use Rattle.rules.specs.Rooms.{Table, Lent}
 use Rattle.rules.specs.Answers.{Outcome, gives, refuses, search_checks, Searched, refused, hopeless, planned}
-use Rattle.rules.specs.declared.Verdict.TheVariants.{Accepted}
 use Rattle.rules.proofs.Clash.{clash}
 use Rattle.rules.proofs.Order.{front_passed, accepted_front, accepted_rest}
 use Rattle.rules.proofs.Refusals.{search_small}
@@ -29,7 +28,7 @@ use Rattle.paper.specs.Fraction.{Fraction, times, IsWhole}
 use Rattle.paper.specs.Problem.{Optimal}
 use Rattle.paper.specs.TwoWay.{TwoWay, graph_of, EqualWeights, query_of, nodes_of}
 use Rattle.paper.proofs.Definition.{right_optimal}
-use Rattle.table.specs.Filling.{value_at}
+use Rattle.table.specs.Places.{value_at}
 use Rattle.search.specs.Demand.{Given, AnsweredPlan, Demand3}
 
 module _ (network request : List ℕ) {before : Lent} where
@@ -98,7 +97,7 @@ module _ (network request : List ℕ) {before : Lent} where
   exactly_24 : {after : Lent} {answer : Outcome} → Searched network request before after answer
       → (answer ≡ refuses 24 0) ↔ (Given network request before × NoDrive network (request_value request))
   exactly_24 (refused r v a same) = (
-    λ told. (let is : r.number ≡ 24 = cc in absurd (omega (arith, ((search_small 24 (omega arith) network request before).given r v).number))),
+    λ told. (let is : number_of r.fault ≡ 24 = cc in absurd (omega (arith, ((search_small 24 (omega arith) network request before).given r v).number))),
     λ (given, blocked). (let passes = given_passes given in clash (cc)),
   )
   exactly_24 (hopeless v d t unplanned a same) =

@@ -1,22 +1,20 @@
 -- The entry's refusals, in the order of its checks.
-use Prim.Native.Nat.{ℕ, ◌+◌, ◌-◌, ◌*◌, ◌≤◌, ◌<◌}
+use Prim.Native.Nat.{ℕ, ◌+◌, ◌-◌, ◌*◌, ◌≤◌}
 use native.Mathlib.Omega.{arith}
 use native.Mathlib.Nat.{mul-le-mul}
-use mathlib.Core.Path.{◌≡◌, refl, sym, ◌∙◌}
+use mathlib.Core.Path.{◌≡◌, refl, ◌∙◌}
 use mathlib.Core.List.{List}
 use lib.ListN.{length}
 use lib.Pow.{pow_mono}
-use borrow.Author.Tests.{lt-ltb, le-ltb}
-use Rattle.rules.specs.Checks.{refuse, first_of}
+use Rattle.std.specs.Prelude.{Err}
+use Rattle.rules.specs.Checks.{Check, Accepted, first_of}
 use Rattle.rules.specs.Limits.{most_nodes, most_riders}
-use Rattle.rules.specs.Network.{node_count}
-use Rattle.rules.specs.Request.{record_checks, request_verdict, request_value, rider_count_of}
-use Rattle.rules.specs.Rooms.{distance_places, table_places, step_places, Lent}
-use Rattle.rules.specs.Answers.{Outcome, refuses, Searched, Searching, room_checks, refused}
-use Rattle.rules.specs.declared.Refusal.{Refusal}
-use Rattle.rules.specs.declared.Verdict.{Verdict}
-use Rattle.rules.specs.declared.Verdict.TheVariants.{Accepted, Refused as NotAccepted}
-use Rattle.rules.proofs.Order.{front_refused, front_passed}
+use Rattle.rules.specs.Network.{node_count, network_checks, network_verdict}
+use Rattle.rules.specs.Request.{record_checks, request_checks, request_value, rider_count_of}
+use Rattle.rules.specs.Rooms.{distance_places, table_places, Lent}
+use Rattle.rules.specs.Answers.{Outcome, refusal_outcome, Searched, Searching, room_checks, search_checks, refused}
+use Rattle.rules.specs.declared.refusal.Refusal.{Refusal}
+use Rattle.rules.proofs.Order.{then, in_order}
 
 -- What the largest rooms need.
 module _ (n l : ℕ) (nodes : n ≤ most_nodes) (riders : l ≤ most_riders) where
@@ -32,39 +30,31 @@ module _ (n l : ℕ) (nodes : n ≤ most_nodes) (riders : l ≤ most_riders) whe
       let links : n - 1 ≤ most_nodes - 1 = omega arith in
       mul-le-mul more links
 
-module _ (n l d t s : ℕ) where
-  pub room_21 : d < distance_places n l → first_of (room_checks n l d t s) ≡ NotAccepted (refuse 21 0)
-  unfolding first_of
-  room_21 short = simp (lt-ltb _ _ short)
+abbrev pub rooms_of : List ℕ → List ℕ → Lent → List Check
+rooms_of network request rooms =
+    room_checks (node_count network) (rider_count_of (request_value request)) (length rooms.distances) (length rooms.table) (length rooms.steps)
 
-  module _ (walks : distance_places n l ≤ d) where
-    pub room_22 : t < table_places n l → first_of (room_checks n l d t s) ≡ NotAccepted (refuse 22 0)
-    unfolding first_of
-    room_22 short = simp (le-ltb _ _ walks, lt-ltb _ _ short)
-
-    module _ (rows : table_places n l ≤ t) where
-      pub room_23 : s < step_places n l → first_of (room_checks n l d t s) ≡ NotAccepted (refuse 23 0)
-      unfolding first_of
-      room_23 short = simp (le-ltb _ _ walks, le-ltb _ _ rows, lt-ltb _ _ short)
-
-      pub room_there : step_places n l ≤ s → first_of (room_checks n l d t s) ≡ Accepted
-      unfolding first_of
-      room_there steps = simp (le-ltb _ _ walks, le-ltb _ _ rows, le-ltb _ _ steps)
-
+-- The search's checks are those of the network, of the request and of the rooms, in turn.
 module _ (network request : List ℕ) (before : Lent) where
-  pub records_refused : {v : Verdict} (r : Refusal) → v ≡ request_verdict network request → v ≡ NotAccepted r
-      → Searched network request before before (refuses r.number r.place)
-  unfolding request_verdict
-  records_refused r is told = refused r (front_refused (record_checks network request) _ r (sym is ∙ told)) refl refl
+  turns : first_of (search_checks network request before) ≡ then (then (network_verdict network) (first_of (request_checks (node_count network) request)))
+      (first_of (rooms_of network request before))
+  unfolding network_verdict
+  turns = rw (in_order (record_checks network request), in_order (network_checks network))
 
-  module _ (accepted : request_verdict network request ≡ Accepted) {v : Verdict}
-      (rooms : v ≡ first_of (room_checks (node_count network) (rider_count_of (request_value request)) (length before.distances)
-      (length before.table) (length before.steps))) where
-    pub rooms_refused : (r : Refusal) → v ≡ NotAccepted r → Searched network request before before (refuses r.number r.place)
-    unfolding request_verdict
-    rooms_refused r told = refused r (front_passed (record_checks network request) _ accepted ∙ sym rooms ∙ told) refl refl
+  -- A refusal leaves the rooms as they were.
+  pub network_refused : {r : Refusal} → Err r ≡ network_verdict network → Searched network request before before (refusal_outcome r)
+  network_refused {r = r} told = refused r (turns ∙ rw (← told)) refl refl
 
-    pub searched : {after : Lent} {answer : Outcome} → v ≡ Accepted
-        → Searching Accepted network (request_value request) before after answer → Searched network request before after answer
-    unfolding request_verdict
-    searched told so = rw (front_passed (record_checks network request) _ accepted ∙ sym rooms ∙ told) so
+  module _ (sound : Accepted ≡ network_verdict network) where
+    pub request_refused : {r : Refusal} → Err r ≡ first_of (request_checks (node_count network) request)
+        → Searched network request before before (refusal_outcome r)
+    request_refused {r = r} told = refused r (turns ∙ rw (← sound, ← told)) refl refl
+
+    module _ (asked : Accepted ≡ first_of (request_checks (node_count network) request)) where
+      pub rooms_refused : {r : Refusal} → Err r ≡ first_of (rooms_of network request before) → Searched network request before before (refusal_outcome r)
+      rooms_refused {r = r} told = refused r (turns ∙ rw (← sound, ← asked, ← told)) refl refl
+
+      -- Past all checks it ends as the search in these rooms does.
+      pub searched : {after : Lent} {answer : Outcome} → Accepted ≡ first_of (rooms_of network request before)
+          → Searching Accepted network (request_value request) before after answer → Searched network request before after answer
+      searched told so = rw (turns, ← sound, ← asked, ← told) so

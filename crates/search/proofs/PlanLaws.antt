@@ -1,58 +1,64 @@
--- The filled rooms, and the answer that they give.
-use Prim.Native.Nat.{ℕ, ◌/◌, ◌%◌}
+-- The filled tables, and the answer that they give.
+use Prim.Native.Nat.{ℕ, ◌/◌, ◌%◌, ◌≤◌}
 use native.Mathlib.Omega.{arith}
-use mathlib.Core.Path.{◌≡◌, refl}
-use mathlib.Core.Logic.{⊎_elim, ◌≢◌}
+use mathlib.Core.Path.{◌≡◌, refl, sym, subst, ap, ◌∙◌}
+use mathlib.Core.Logic.{⊎_elim}
 use mathlib.Core.List.{List, [], ◌∷◌}
+use lib.ListN.{length}
+use Rattle.rules.specs.Checks.{Accepted}
 use Rattle.rules.specs.Limits.{step_range}
-use Rattle.rules.specs.Plans.{NoPlan}
-use Rattle.rules.specs.Rooms.{no_finish, Distances, Table, Lent, lent}
-use Rattle.rules.specs.Answers.{gives, refuses, Searching, hopeless, planned}
+use Rattle.rules.specs.Network.{SoundNetwork, node_count}
+use Rattle.rules.specs.Request.{SoundValue, rider_count_of}
 use Rattle.rules.specs.declared.Request.{Request}
-use Rattle.rules.specs.declared.Verdict.TheVariants.{Accepted}
+use Rattle.rules.specs.Plans.{NoPlan}
+use Rattle.rules.specs.Rooms.{no_finish, step_places, Distances, Table, lent}
+use Rattle.rules.specs.Answers.{gives, refuses, Searching, hopeless, planned}
 use Rattle.rules.proofs.PlanLaws.{all_riders_below}
 use Rattle.finish.proofs.Bounds.{holds_least, unpacks}
 use Rattle.right.specs.Reading.{plan_value}
-use Rattle.table.specs.Filling.{Ready, value_at}
-use Rattle.search.specs.Known.{Known, Planning, PlanWritten}
-use Rattle.search.specs.Rooms.{Roomy}
+use Rattle.table.specs.Places.{value_at}
+use Rattle.table.specs.declared.tables.Tables.{Tables}
+use Rattle.search.specs.Known.{Known, value_in}
+use Rattle.search.specs.Steps.{network_of, request_of, here, AtSource, PlanWritten}
+use Rattle.search.specs.declared.bus.Bus.{Bus}
 
-pub ready : {network : List ℕ} {q : Request} {before : Lent} → Roomy network q before → Ready network q before.distances
-ready rooms = record { sound = rooms.sound; request = rooms.request; places = rooms.enough.distances }
+-- Where the table has no value for the plans, there is none.
+pub answer_24 : {network : List ℕ} {q : Request} {d₀ t₀ s₀ d t : List ℕ} → SoundNetwork network → SoundValue (node_count network) q
+    → Distances network q d₀ d → Table network q t₀ t → plan_value q (value_at network t) ≡ no_finish
+    → Searching Accepted network q (lent d₀ t₀ s₀) (lent d t s₀) (refuses 24 0)
+answer_24 {network} {q} sound fits walked table none =
+    let below = all_riders_below q in
+    let no_plan : NoPlan network q =
+    ⊎_elim
+    (λ has. absurd (omega (arith, (unpacks sound fits below fits.starts has.best has.packs).below)))
+    (λ no. no.0)
+    (table.holds _ _ below fits.starts) in
+    hopeless refl walked table no_plan refl refl
 
-module _ {network : List ℕ} {q : Request} {d₀ t₀ s₀ : List ℕ} (rooms : Roomy network q (lent d₀ t₀ s₀)) {t : List ℕ}
-    (table : Table network q t₀ t) where
-  pub known : Known network q t
+-- What the bus at the source asks, and what it tells.
+module _ {tables : Tables} {bus : Bus} (from : AtSource tables bus) {d₀ t₀ : List ℕ} (s₀ : List ℕ)
+    (walked : Distances tables.job.now.network tables.job.now.request d₀ tables.distances.now)
+    (table : Table tables.job.now.network tables.job.now.request t₀ tables.table.now) where
+  known : Known tables
   known =
+      let job = tables.job.now in
       record {
-        sound = rooms.sound;
-        request = rooms.request;
-        places = omega (arith, rooms.enough.table, table.kept.size);
-        filled = λ R v small h. holds_least rooms.sound rooms.request small h (table.holds R v small h);
+        walks = λ j v small h. walked.holds j v small h;
+        filled = λ R v small h. holds_least job.sound job.fits small h (table.holds R v small h);
       }
 
-  module _ {best : ℕ} (reads-best : best ≡ plan_value q (value_at network t)) where
-    -- no value, no plan
-    no_plan_there : best ≡ no_finish → NoPlan network q
-    no_plan_there none =
-        let starts = rooms.request.starts in
-        ⊎_elim
-        (λ has. absurd (omega (arith, (unpacks rooms.sound rooms.request (all_riders_below q) starts has.best has.packs).below)))
-        (λ no. no.0)
-        (table.holds _ _ (all_riders_below q) starts)
+  pub ready : step_places (node_count tables.job.now.network) (rider_count_of tables.job.now.request) ≤ length s₀
+      → Known bus.tables.now × AtSource bus.tables.now bus × (step_places (node_count (network_of bus)) (rider_count_of (request_of bus)) ≤ length s₀)
+  ready room =
+      subst
+      (λ (t : Tables). Known t × AtSource t bus × (step_places (node_count t.job.now.network) (rider_count_of t.job.now.request) ≤ length s₀))
+      (sym from.same) (known, from, room)
 
-    pub planning : best ≢ no_finish → Planning network q t s₀
-    planning some =
-        record {
-          known = known;
-          finite = omega (arith, (known.filled _ _ (all_riders_below q) rooms.request.starts).capped);
-          room = rooms.enough.steps;
-        }
-
-    module _ {d : List ℕ} (walked : Distances network q d₀ d) where
-      pub answer_24 : best ≡ no_finish → Searching Accepted network q (lent d₀ t₀ s₀) (lent d t s₀) (refuses 24 0)
-      answer_24 none = hopeless refl walked table (no_plan_there none) refl refl
-
-      pub answer_plan : {s : List ℕ} → PlanWritten network q t s₀ s
-          → Searching Accepted network q (lent d₀ t₀ s₀) (lent d t s) (gives (best / step_range ∷ best % step_range ∷ []))
-      answer_plan so = planned so.plan _ refl walked table so.right (rw (reads-best, so.count)) so.written
+  pub answer_plan : {s : List ℕ} {best : ℕ} → PlanWritten bus.tables.now s₀ s → best ≡ here bus
+      → Searching Accepted tables.job.now.network tables.job.now.request (lent d₀ t₀ s₀) (lent tables.distances.now tables.table.now s)
+      (gives (best / step_range ∷ best % step_range ∷ []))
+  answer_plan {best = best} written reads =
+      let so = rw from.same at written in
+      let told : best ≡ plan_value tables.job.now.request (value_in tables) =
+      reads ∙ ap (λ (t : Tables). value_in t bus.riders bus.node) from.same ∙ rw (from.all, from.source) in
+      planned so.plan _ refl walked table so.right (rw (told, so.count)) so.written

@@ -12,16 +12,17 @@ use Rattle.rules.specs.Walks.{no_distance}
 use Rattle.rules.specs.Routes.{RiderHolds}
 use Rattle.rules.specs.Plans.{Has, without, drive_step}
 use Rattle.rules.specs.Rooms.{no_finish}
-use Rattle.rules.specs.declared.Request.{Request}
 use Rattle.rules.proofs.RiderLaws.{rider_holds_unique, held_walks}
 use Rattle.rules.specs.Limits.{closed, packed_step, first_drive}
 use Rattle.finish.proofs.Sets.{has_below}
 use Rattle.finish.proofs.Bounds.{rider_bounded}
-use Rattle.right.specs.Reading.{Step, meets, drives, Tight}
-use Rattle.table.specs.Filling.{KnownDistances, value_at}
+use Rattle.right.specs.Reading.{Step, meets, drives}
+use Rattle.table.specs.Places.{value_at}
 use Rattle.table.specs.Meetings.{meeting_at}
 use Rattle.table.proofs.MeetingLaws.{cannot_meet, can_meet}
-use Rattle.search.specs.Known.{Stands, driving_step}
+use Rattle.search.specs.Known.{Known, value_in}
+use Rattle.search.specs.declared.bus.Bus.{Bus}
+use Rattle.search.specs.Steps.{network_of, request_of, here, driving_step, drive_value, TightStep}
 
 -- what a drive from v takes
 pub not_driven : (network : List ℕ) (weight v k : ℕ) → (from network k ≡ v → ⊥) → no_finish ≡ driving_step network weight v k
@@ -38,70 +39,76 @@ pub open_drive : (network : List ℕ) (weight v k : ℕ) → from network k ≡ 
 unfolding driving_step
 open_drive network weight v k e h = simp (eq-eqb _ _ e, lt-leb _ _ h)
 
-module _ {network : List ℕ} {q : Request} {table : List ℕ} {R v : ℕ} (at : Stands network q table R v) where
+module _ (bus : Bus) where
   -- A rider of the set is a rider of the request.
-  pub member : (j : ℕ) → Has R j → j < rider_count_of q
-  member j has = has_below R j (rider_count_of q) at.set has
+  pub member : (j : ℕ) → Has bus.riders j → j < rider_count_of (request_of bus)
+  member j has = has_below bus.riders j (rider_count_of (request_of bus)) bus.stands.set has
 
-  module _ {distances : List ℕ} (walked : KnownDistances network q distances) where
-    holds : {j : ℕ} → Has R j → RiderHolds network q j v (value_at network distances j v)
-    holds {j} has = walked.walks j v (member j has) at.node
+  -- what it takes to meet rider j, and then to finish
+  abbrev pub meeting_value : ℕ → ℕ
+  meeting_value j = meeting_at bus.tables.now j bus.node + value_in bus.tables.now (without bus.riders j) bus.node
+
+  module _ (known : Known bus.tables.now) where
+    holds : {j : ℕ} → Has bus.riders j → RiderHolds (network_of bus) (request_of bus) j bus.node (value_at (network_of bus) bus.tables.now.distances.now j bus.node)
+    holds {j} has = known.walks j bus.node (member j has) bus.stands.node
 
     -- a meeting that makes up the value is tight
-    pub meeting_tight : (j : ℕ) → Has R j
-        → value_at network table R v ≡ meeting_at network q distances j v + value_at network table (without R j) v
-        → Tight network q (value_at network table) R v j (without R j) v
-    meeting_tight j has e = elim (ℕ_discrete (value_at network distances j v) no_distance) [
-      | yes none ↦ absurd (omega (arith, at.finite, cannot_meet (rider_weight_of q j) (value_at network distances j v) none))
-      | no some ↦
-          (record {
-            cost = _;
-            leads = meets _ has (held_walks (holds has) some) refl refl refl;
-            tight = e ∙ rw (← can_meet (rider_weight_of q j) (value_at network distances j v) some);
-          })
-    ]
+    pub meeting_tight : (j : ℕ) → Has bus.riders j → here bus ≡ meeting_value j → TightStep bus j (without bus.riders j) bus.node
+    meeting_tight j has e =
+        let weight = rider_weight_of (request_of bus) j in
+        let distance = value_at (network_of bus) bus.tables.now.distances.now j bus.node in
+        elim (ℕ_discrete distance no_distance) [
+          | yes none ↦ absurd (omega (arith, bus.stands.finite, cannot_meet weight distance none))
+          | no some ↦
+              (record {
+                cost = _;
+                leads = meets _ has (held_walks (holds has) some) refl refl refl;
+                tight = e ∙ rw (← can_meet weight distance some);
+              })
+        ]
 
     -- a step below the first drive that is tight is such a meeting
-    pub tight_meeting : {j S x : ℕ} → j < first_drive → Tight network q (value_at network table) R v j S x
-        → Has R j × (value_at network table R v ≡ meeting_at network q distances j v + value_at network table (without R j) v)
+    pub tight_meeting : {j S x : ℕ} → j < first_drive → TightStep bus j S x → Has bus.riders j × (here bus ≡ meeting_value j)
     tight_meeting {j} {S} {x} low so = go so.leads so.tight
       where
-        go : {cost : ℕ} → Step network q R v j S x cost → value_at network table R v ≡ packed_step cost + value_at network table S x
-            → Has R j × (value_at network table R v ≡ meeting_at network q distances j v + value_at network table (without R j) v)
+        go : {cost : ℕ} → Step (network_of bus) (request_of bus) bus.riders bus.node j S x cost
+            → here bus ≡ packed_step cost + value_in bus.tables.now S x → Has bus.riders j × (here bus ≡ meeting_value j)
         go (meets d has walks left stays costs) tight =
-            let same : value_at network distances j v ≡ d = rider_holds_unique (holds has) (inl walks) in
-            let few = rider_bounded at.known.sound at.node walks in
-            let step = can_meet (rider_weight_of q j) (value_at network distances j v) (omega arith) in
+            let distance = value_at (network_of bus) bus.tables.now.distances.now j bus.node in
+            let same : distance ≡ d = rider_holds_unique (holds has) (inl walks) in
+            let few = rider_bounded bus.tables.now.job.now.sound bus.stands.node walks in
+            let step = can_meet (rider_weight_of (request_of bus) j) distance (omega arith) in
             (has, rw (left, stays, costs, ← same, step) at tight)
         go (drives k w step leads stays costs) tight = absurd (omega arith)
 
   -- a drive that makes up the value is tight
-  pub driving_tight : (k : ℕ) → k < link_count network
-      → value_at network table R v ≡ driving_step network (bus_weight_of q) v k + value_at network table R (to network k)
-      → Tight network q (value_at network table) R v (drive_step k) R (to network k)
-  driving_tight k exists e = elim (ℕ_discrete (from network k) v) [
-    | no away ↦ absurd (omega (arith, at.finite, not_driven network (bus_weight_of q) v k away))
-    | yes here ↦ elim (dec_lt (drive network k) closed) [
-      | no shut ↦ absurd (omega (arith, at.finite, closed_drive network (bus_weight_of q) v k here (omega arith)))
-      | yes drivable ↦
-          (record {
-            cost = _;
-            leads =
-                drives k (drive network k) refl (record { exists = exists; starts = here; ends = refl; costs = refl; opened = drivable }) refl refl;
-            tight = e ∙ rw (← open_drive network (bus_weight_of q) v k here drivable);
-          })
-    ]
-  ]
+  pub driving_tight : (k : ℕ) → k < link_count (network_of bus) → here bus ≡ drive_value bus k
+      → TightStep bus (drive_step k) bus.riders (to (network_of bus) k)
+  driving_tight k exists e =
+      let network = network_of bus in
+      let weight = bus_weight_of (request_of bus) in
+      elim (ℕ_discrete (from network k) bus.node) [
+        | no away ↦ absurd (omega (arith, bus.stands.finite, not_driven network weight bus.node k away))
+        | yes starts ↦ elim (dec_lt (drive network k) closed) [
+          | no shut ↦ absurd (omega (arith, bus.stands.finite, closed_drive network weight bus.node k starts (omega arith)))
+          | yes drivable ↦
+              (record {
+                cost = _;
+                leads =
+                    drives k (drive network k) refl (record { exists = exists; starts = starts; ends = refl; costs = refl; opened = drivable }) refl refl;
+                tight = e ∙ rw (← open_drive network weight bus.node k starts drivable);
+              })
+        ]
+      ]
 
   -- a drive step that is tight is such a drive
-  pub tight_drive : {k S x : ℕ} → Tight network q (value_at network table) R v (drive_step k) S x
-      → (k < link_count network) × (value_at network table R v ≡ driving_step network (bus_weight_of q) v k + value_at network table R (to network k))
+  pub tight_drive : {k S x : ℕ} → TightStep bus (drive_step k) S x → (k < link_count (network_of bus)) × (here bus ≡ drive_value bus k)
   tight_drive {k} {S} {x} so = go so.leads so.tight
     where
-      go : {cost : ℕ} → Step network q R v (drive_step k) S x cost
-          → value_at network table R v ≡ packed_step cost + value_at network table S x
-          → (k < link_count network) × (value_at network table R v ≡ driving_step network (bus_weight_of q) v k + value_at network table R (to network k))
-      go (meets d has walks left stays costs) tight = absurd (omega (arith, member (drive_step k) has, at.known.request.riders))
+      go : {cost : ℕ} → Step (network_of bus) (request_of bus) bus.riders bus.node (drive_step k) S x cost
+          → here bus ≡ packed_step cost + value_in bus.tables.now S x
+          → (k < link_count (network_of bus)) × (here bus ≡ drive_value bus k)
+      go (meets d has walks left stays costs) tight = absurd (omega (arith, member (drive_step k) has, bus.tables.now.job.now.fits.riders))
       go (drives i w step leads stays costs) tight =
           let same : i ≡ k = omega arith in
           let link = rw same at leads in (
@@ -111,7 +118,7 @@ module _ {network : List ℕ} {q : Request} {table : List ℕ} {R v : ℕ} (at :
               costs,
               ← link.costs,
               ← link.ends,
-              open_drive network (bus_weight_of q) v k link.starts
+              open_drive (network_of bus) (bus_weight_of (request_of bus)) bus.node k link.starts
                   (rw (← link.costs) at link.opened),
             ) at tight,
           )

@@ -1,82 +1,89 @@
 -- The steps written so far, and the right plan when there is nothing left to do.
 use Prim.Native.Nat.{ℕ, ◌+◌, ◌%◌, ◌≤◌, ◌<◌}
 use native.Mathlib.Omega.{arith}
+use native.Mathlib.Decide.{ℕ_discrete}
 use native.Mathlib.Numerals.{add-one}
-use mathlib.Core.Path.{◌≡◌, sym, ◌∙◌, ap}
+use mathlib.Core.Path.{◌≡◌, refl, sym, subst, ◌∙◌, ap}
 use mathlib.Core.Logic.{⊎_elim}
 use mathlib.Core.List.{List, ◌++◌}
 use lib.ListN.{length, set, take, drop, length-set, take-append-drop}
 use lib.Seq.{take-suc-set, length-take-le}
 use lib.Count.{ones-ones}
 use Rattle.rules.specs.Limits.{step_range}
+use Rattle.rules.specs.Network.{node_count}
 use Rattle.rules.specs.Request.{rider_count_of}
+use Rattle.rules.specs.Rooms.{no_finish, step_places}
 use Rattle.rules.specs.Plans.{all_riders}
-use Rattle.rules.specs.declared.Request.{Request}
 use Rattle.rules.proofs.PlanLaws.{all_riders_below}
 use Rattle.rules.proofs.RoomLaws.{kept_none, kept_then, kept_set}
 use Rattle.rules.proofs.WritingLaws.{kept_later}
 use Rattle.finish.proofs.Bounds.{least_holds, best_bounded, unpacks}
 use Rattle.right.specs.Reading.{NextStep, plan_value}
 use Rattle.right.proofs.Reading.{reading_start, reading_next, reading_room, reading_done}
-use Rattle.table.specs.Filling.{value_at}
-use Rattle.search.specs.Known.{Known, Stands, Planning, Writing, PlanWritten}
+use Rattle.table.specs.declared.tables.Tables.{Tables}
+use Rattle.search.specs.Known.{Known, value_in}
+use Rattle.search.specs.declared.bus.Bus.{Bus}
+use Rattle.search.specs.Steps.{network_of, request_of, here, Next, AtSource, Writing, PlanWritten}
+use Rattle.search.specs.declared.bus.Move.{Move}
 
-module _ {network : List ℕ} {q : Request} {table before : List ℕ} (plans : Planning network q table before) where
-  known : Known network q table
-  known = plans.known
+module _ (start : Bus) (known : Known start.tables.now) (from : AtSource start.tables.now start) (before : List ℕ)
+    (room : step_places (node_count (network_of start)) (rider_count_of (request_of start)) ≤ length before) where
+  finite : plan_value (request_of start) (value_in start.tables.now) < no_finish
+  finite = rw (from.all, from.source) at start.stands.finite
 
   -- The plan has no more steps than there is room.
-  plan_room : plan_value q (value_at network table) % step_range ≤ length before
+  plan_room : plan_value (request_of start) (value_in start.tables.now) % step_range ≤ length before
   plan_room =
-      let starts = known.request.starts in
+      let job = start.tables.now.job.now in
+      let q = request_of start in
+      let below = all_riders_below q in
+      let starts = job.fits.starts in
       ⊎_elim
       (λ has.
-      let short = (best_bounded known.sound known.request (all_riders_below q) starts has.best).short in
-      omega (
-        arith,
-        plans.room,
-        rw (ones-ones (rider_count_of q)) at short,
-        (unpacks known.sound known.request (all_riders_below q)
-            starts has.best has.packs).remainder,
-      ))
-      (λ none. absurd (omega (arith, plans.finite)))
-      (least_holds known.sound known.request (all_riders_below q) starts (known.filled (all_riders q) q.source (all_riders_below q) starts))
+      let short = (best_bounded job.sound job.fits below starts has.best).short in
+      omega (arith, room, rw (ones-ones (rider_count_of q)) at short, (unpacks job.sound job.fits below starts has.best has.packs).remainder))
+      (λ none. absurd (omega (arith, finite)))
+      (least_holds job.sound job.fits below starts (known.filled (all_riders q) q.source below starts))
 
-  pub writing_none : Writing network q table before (all_riders q) q.source 0 before
+  pub writing_none : Writing start.tables.now before start 0 before
   writing_none =
-      record { short = omega arith; reading = reading_start known.sound known.request known.filled plans.finite; kept = kept_none }
+      let job = start.tables.now.job.now in
+      record {
+        short = omega arith;
+        reading = rw (from.all, from.source) (reading_start job.sound job.fits known.filled finite);
+        kept = kept_none;
+        same = refl;
+      }
 
-  module _ {R v i : ℕ} {after : List ℕ} (so : Writing network q table before R v i after) where
-    pub stands : Stands network q table R v
-    stands = record { known = known; set = so.reading.set; node = so.reading.node; finite = so.reading.finite }
+  module _ {bus : Bus} {i : ℕ} {after : List ℕ} (so : Writing start.tables.now before bus i after) where
+    stands_there : here bus ≡ value_in start.tables.now bus.riders bus.node
+    stands_there = ap (λ (t : Tables). value_in t bus.riders bus.node) so.same
 
-    pub room_left : 0 < value_at network table R v → i < length after
+    room_left : 0 < here bus → i < length after
     room_left some =
-        omega (
-          arith,
-          so.kept.size,
-          plan_room,
-          length-take-le i after so.short,
-          reading_room known.sound known.request
-              known.filled so.reading some,
-        )
+        let job = start.tables.now.job.now in
+        let more = reading_room job.sound job.fits known.filled so.reading (rw stands_there at some) in
+        omega (arith, so.kept.size, plan_room, length-take-le i after so.short, more)
 
     -- one step more
-    pub writing_more : {step S x : ℕ} → 0 < value_at network table R v → NextStep network q (value_at network table) R v step S x
-        → Writing network q table before S x (i + 1) (set after i step)
-    writing_more {step} some next =
+    pub writing_more : {move : Move} → Next bus move → Writing start.tables.now before move.bus (i + 1) (set after i move.step)
+    writing_more {move} next =
+        let job = start.tables.now.job.now in
+        let left = room_left (omega (arith, next.lowest.tight.tight)) in
         record {
-          short = rw length-set (omega (arith, room_left some));
+          short = rw length-set (omega (arith, left));
           reading =
-              rw (add-one, take-suc-set after i step (room_left some))
-              (reading_next known.sound known.request known.filled so.reading next);
-          kept = kept_then (kept_later (omega arith) so.kept) (kept_set after i step (omega arith));
+              rw (add-one, take-suc-set after i move.step left)
+              (reading_next job.sound job.fits known.filled so.reading (subst (λ (t : Tables). NextStep t.job.now.network t.job.now.request (value_in t) bus.riders bus.node move.step move.bus.riders move.bus.node) so.same next.lowest));
+          kept = kept_then (kept_later (omega arith) so.kept) (kept_set after i move.step (omega arith));
+          same = next.same ∙ so.same;
         }
 
     -- nothing left to do
-    pub writing_done : value_at network table R v ≡ 0 → PlanWritten network q table before after
+    pub writing_done : here bus ≡ 0 → PlanWritten start.tables.now before after
     writing_done none =
-        let (right, count) = reading_done known.sound known.request known.filled so.reading none in
+        let job = start.tables.now.job.now in
+        let (right, count) = reading_done job.sound job.fits known.filled so.reading (rw stands_there at none) in
         let rest = so.kept.later ∙ ap (λ (k : ℕ). drop k before) (sym (length-take-le i after so.short)) in
         record {
           plan = take i after;
@@ -84,3 +91,10 @@ module _ {network : List ℕ} {q : Request} {table before : List ℕ} (plans : P
           count = count;
           written = sym (take-append-drop i after) ∙ ap (λ (l : List ℕ). take i after ++ l) rest;
         }
+
+    -- no room left
+    pub writing_full : length after ≤ i → PlanWritten start.tables.now before after
+    writing_full full = elim (ℕ_discrete (here bus) 0) [
+      | yes none ↦ writing_done none
+      | no some ↦ absurd (omega (arith, room_left (omega arith)))
+    ]

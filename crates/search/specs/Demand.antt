@@ -10,7 +10,7 @@ use Rattle.rules.specs.Answers.{Outcome, gives, refuses}
 use Rattle.rules.specs.declared.Request.{Request}
 use Rattle.right.specs.Reading.{plan_value}
 use Rattle.right.specs.Steps.{drives_of, positions_of, NoDrive}
-use Rattle.table.specs.Filling.{value_at}
+use Rattle.table.specs.Places.{value_at}
 
 -- Sound records, and room enough.
 pub record Given (network request : List ℕ) (before : Lent) : Type 0 where

@@ -1,3 +1,3 @@
 pub mod Known
-pub mod Rooms
+pub mod Steps
 pub mod Demand

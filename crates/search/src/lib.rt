@@ -1,6 +1,7 @@
 // The search: the one right plan.
 #![tactic(auto)]
 
+mod bus;
 pub mod inner;
 mod steps;
 
@@ -11,9 +12,9 @@ ghost use Rattle.rules.specs.Answers.{planned_outcome, room_checks, Searched};
 ghost use Rattle.rules.specs.Rooms.{lent};
 
 use inner::plan;
-use records::inner::node_count;
-use records::read_request;
-use rules::{Planned, Verdict, refused};
+use records::inner::Network;
+use rules::checks::check;
+use rules::{Fault, Plan, Refusal};
 use table::inner::rider_bit;
 
 // Finds the right plan: fills the riders' walking distances and the work table, and writes the plan's steps. Answers its
@@ -24,38 +25,38 @@ pub fn search(
     distances: &mut [u32],
     table: &mut [u64],
     steps: &mut [u16],
-) -> Planned
+) -> Result<Plan, Refusal>
     ensures { Searched network.now request.now
         (lent distances.old table.old steps.old)
         (lent distances.new table.new steps.new) (planned_outcome result) }
 {
-    let read = read_request(network, request);
-    let verdict = read.verdict;
-    if let Verdict::Refused(r) = verdict {
-        return Planned::Refused(r);
-    }
-    let q = read.request;
-    let n = node_count(network);
-    let rooms = rooms_verdict(n, q.rider_count, distances.len(), table.len(), steps.len());
-    if let Verdict::Refused(r) = rooms {
-        return Planned::Refused(r);
-    }
-    plan(network, q, distances, table, steps)
+    let network = Network::read(network)?;
+    let request = network.read_request(request)?;
+    let n = network.node_count();
+    rooms_verdict(
+        n,
+        request.rider_count,
+        distances.len(),
+        table.len(),
+        steps.len(),
+    )?;
+    plan(&network, request, distances, table, steps)
 }
 
 // Refusals 21 to 23 of rooms with so many places, for n nodes and l riders.
-fn rooms_verdict(n: usize, l: usize, distances: usize, table: usize, steps: usize) -> Verdict
+#[tactic(auto, unfolding(rules::specs::Checks::first_of))]
+fn rooms_verdict(
+    n: usize,
+    l: usize,
+    distances: usize,
+    table: usize,
+    steps: usize,
+) -> Result<(), Refusal>
     requires { (1 ≤ n) × (n ≤ most_nodes) × (l ≤ most_riders) }
     ensures { result ≡ first_of (room_checks n l distances table steps) }
 {
-    if distances < l * n {
-        return refused(21, 0);
-    }
-    if table < rider_bit(l as u32) as usize * n {
-        return refused(22, 0);
-    }
-    if steps < l + (l + 1) * (n - 1) {
-        return refused(23, 0);
-    }
-    Verdict::Accepted
+    let sets = rider_bit(l as u32) as usize;
+    check(distances < l * n, Fault::DistancesRoom, 0)?;
+    check(table < sets * n, Fault::TableRoom, 0)?;
+    check(steps < l + (l + 1) * (n - 1), Fault::StepsRoom, 0)
 }

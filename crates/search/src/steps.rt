@@ -1,155 +1,133 @@
-// Reading the plan off the table: the lowest step that makes up the value, time after time.
-ghost use Rattle.std.specs.Prelude.{◌+◌, ◌≤◌, ◌<◌, ◌≡◌, eqb};
-ghost use Rattle.rules.specs.Limits.{most_weight};
-ghost use Rattle.rules.specs.Network.{SoundNetwork, link_count, to};
-ghost use Rattle.rules.specs.Request.{bus_weight_of};
-ghost use Rattle.table.specs.Filling.{KnownDistances, value_at};
-ghost use Rattle.search.specs.Known.{Stands, driving_step, NoMeeting, IsNext, LowestMeeting, Planning, PlanWritten};
+// Reading the plan off the tables: the lowest step that makes up the value, time after time.
+ghost use Rattle.std.specs.Prelude.{◌+◌, ◌*◌, ◌≤◌, ◌<◌, ◌≡◌, MatchOption, length, min};
+ghost use Rattle.rules.specs.Network.{node_count, link_count};
+ghost use Rattle.rules.specs.Request.{rider_count_of};
+ghost use Rattle.rules.specs.Rooms.{no_finish, step_places};
+ghost use Rattle.right.specs.Reading.{plan_value};
+ghost use Rattle.search.specs.Known.{Known, Whole, value_in};
+ghost use Rattle.search.specs.Steps.{AtSource, Next, NoMeeting, PlanWritten, drive_value, here, network_of, request_of};
 
-use records::inner::{drive, from, to};
+use crate::bus::{Bus, Move};
 use rules::inner::packed_step;
-use rules::{CLOSED, FIRST_DRIVE, NO_FINISH, Request};
-use table::inner::{first_meeting, rider_bit, value};
+use rules::{CLOSED, FIRST_DRIVE, NO_FINISH};
+use table::inner::{Tables, rider_bit, value};
 
-// A step of the plan, and where it leads: the riders then still to be met, and the node.
-#[derive(Clone, Copy)]
-pub struct Move {
-    pub step: usize,
-    pub riders: u32,
-    pub node: usize,
-}
-
-// The lowest tight meeting, where there is one.
-#[derive(Clone, Copy)]
-pub enum NextMeeting {
-    Met(Move),
-    Nobody,
-}
-
-// Whether a step and the value behind it make up the value here.
-fn makes_up(here: u64, step: u64, behind: u64) -> bool
-    ensures { result ≡ eqb here (step + behind) }
-{
-    if here < behind {
-        return false;
-    }
-    here - behind == step
-}
-
-// The lowest tight meeting at v.
-fn next_meeting(
-    network: &[u8],
-    q: Request,
-    distances: &[u32],
-    table: &[u64],
-    riders: u32,
-    v: usize,
-) -> NextMeeting
-    requires { Stands network.now q table.now riders v × KnownDistances network.now q distances.now }
-    ensures { LowestMeeting network.now q table.now riders v result }
-{
-    let here = value(network, table, riders, v);
-    let mut left = riders;
-    while u32::count_ones(left) != 0 {
-        let next = first_meeting(network, q, distances, table, riders, left, v);
-        if makes_up(here, next.step, next.rest) {
-            return NextMeeting::Met(Move {
-                step: next.rider as usize,
-                riders: next.riders,
-                node: v,
-            });
+impl<'a> Bus<'a> {
+    // At the source with every rider to be met, where the tables know a finish from there.
+    pub fn at_source(tables: &'a Tables<'a, 'a>) -> Option<Self>
+        requires { Whole tables.now }
+        ensures { MatchOption result (plan_value tables.now.job.now.request (value_in tables.now) ≡ no_finish) (AtSource tables.now) }
+    {
+        let job = tables.job;
+        let riders = rider_bit(job.request.rider_count as u32) - 1;
+        let best = value(job.network, tables.table, riders, job.request.source);
+        if best == NO_FINISH {
+            return None;
         }
-        left = next.left;
+        Some(Bus {
+            tables,
+            riders,
+            node: job.request.source,
+        })
     }
-    NextMeeting::Nobody
-}
 
-// What it takes to drive link k from v, or none where that is no drive.
-fn driving_step(network: &[u8], weight: u64, v: usize, k: usize) -> u64
-    requires { SoundNetwork network.now × (k < link_count network.now) × (weight ≤ most_weight) }
-    ensures { result ≡ driving_step network.now weight v k }
-{
-    let start = from(network, k);
-    let cost = drive(network, k);
-    if start != v {
-        return NO_FINISH;
+    // What the finish from here takes.
+    pub fn value(&self) -> u64
+        ensures { result ≡ here self.now }
+    {
+        let tables = self.tables;
+        let job = tables.job;
+        value(job.network, tables.table, self.riders, self.node)
     }
-    if CLOSED <= cost {
-        return NO_FINISH;
-    }
-    packed_step(weight * cost)
-}
 
-// Whether driving link k from v is tight.
-fn drive_makes_up(
-    network: &[u8],
-    q: Request,
-    table: &[u64],
-    riders: u32,
-    v: usize,
-    k: usize,
-) -> bool
-    requires { (k < link_count network.now) × Stands network.now q table.now riders v }
-    ensures { result ≡ eqb (value_at network.now table.now riders v)
-        (driving_step network.now (bus_weight_of q) v k
-        + value_at network.now table.now riders (to network.now k)) }
-{
-    let here = value(network, table, riders, v);
-    let step = driving_step(network, q.bus_weight, v, k);
-    let behind = value(network, table, riders, to(network, k));
-    makes_up(here, step, behind)
-}
-
-// The lowest tight drive from v, where some step is tight and no meeting is.
-fn next_drive(network: &[u8], q: Request, table: &[u64], riders: u32, v: usize) -> Move
-    requires { Stands network.now q table.now riders v × (0 < value_at network.now table.now riders v)
-        × NoMeeting network.now q table.now riders v }
-    ensures { IsNext network.now q table.now riders v result }
-{
-    let mut k = 0;
-    while !drive_makes_up(network, q, table, riders, v, k) {
-        k += 1;
+    // Writes the steps of the right plan at the start of the room.
+    pub fn write_plan(self, steps: &mut [u16])
+        requires { Known self.tables.now × AtSource self.tables.now self
+            × (step_places (node_count (network_of self)) (rider_count_of (request_of self)) ≤ length steps.old) }
+        ensures { PlanWritten self.entry.tables.now steps.old steps.new }
+    {
+        let mut bus = self;
+        for place in steps.iter_mut() {
+            let Some(next) = bus.next_move() else {
+                return;
+            };
+            *place = next.step as u16;
+            bus = next.bus;
+        }
     }
-    Move {
-        step: FIRST_DRIVE + k,
-        riders,
-        node: to(network, k),
-    }
-}
 
-// The lowest tight step from a place whose value is not 0.
-fn next_move(
-    network: &[u8],
-    q: Request,
-    distances: &[u32],
-    table: &[u64],
-    riders: u32,
-    v: usize,
-) -> Move
-    requires { Stands network.now q table.now riders v × (0 < value_at network.now table.now riders v)
-        × KnownDistances network.now q distances.now }
-    ensures { IsNext network.now q table.now riders v result }
-{
-    let met = next_meeting(network, q, distances, table, riders, v);
-    if let NextMeeting::Met(next) = met {
-        return next;
+    // The lowest tight step, while something is left to do.
+    fn next_move(&self) -> Option<Move<'a>>
+        requires { Known self.now.tables.now }
+        ensures { MatchOption result (here self.now ≡ 0) (Next self.now) }
+    {
+        if self.value() == 0 {
+            return None;
+        }
+        match self.next_meeting() {
+            Some(met) => Some(met),
+            None => Some(self.next_drive()),
+        }
     }
-    next_drive(network, q, table, riders, v)
-}
 
-// Writes the steps of the right plan at the start of the room.
-pub fn read_plan(network: &[u8], q: Request, distances: &[u32], table: &[u64], steps: &mut [u16])
-    requires { Planning network.now q table.now steps.old × KnownDistances network.now q distances.now }
-    ensures { PlanWritten network.now q table.now steps.old steps.new }
-{
-    let mut riders = rider_bit(q.rider_count as u32) - 1;
-    let mut v = q.source;
-    let mut i = 0;
-    while value(network, table, riders, v) != 0 {
-        let next = next_move(network, q, distances, table, riders, v);
-        steps[i] = next.step as u16;
-        riders = next.riders;
-        v = next.node;
-        i += 1;
+    // The lowest tight meeting, where there is one.
+    fn next_meeting(&self) -> Option<Move<'a>>
+        requires { Known self.now.tables.now }
+        ensures { MatchOption result (NoMeeting self.now) (Next self.now) }
+    {
+        let here = self.value();
+        let mut left = self.riders;
+        // A set of riders is a number: its ones are counted, and the lowest is taken out.
+        while left.count_ones() != 0 {
+            let next = self.tables.first_meeting(self.riders, left, self.node);
+            if next.step.saturating_add(next.rest) == here {
+                let bus = Bus {
+                    tables: self.tables,
+                    riders: next.riders,
+                    node: self.node,
+                };
+                let step = next.rider as usize;
+                return Some(Move { step, bus });
+            }
+            left = next.left;
+        }
+        None
+    }
+
+    // The lowest tight drive, where some step is tight and no meeting is.
+    fn next_drive(&self) -> Move<'a>
+        requires { Known self.now.tables.now × (0 < here self.now) × NoMeeting self.now }
+        ensures { Next self.now result }
+    {
+        let tables = self.tables;
+        let job = tables.job;
+        let network = job.network;
+        let here = self.value();
+        let k = (0..network.link_count())
+            .find(|&k| self.drive_value(k) == here)
+            .unwrap();
+        let bus = Bus {
+            tables,
+            riders: self.riders,
+            node: network.to(k),
+        };
+        let step = FIRST_DRIVE + k;
+        Move { step, bus }
+    }
+
+    // What it takes to drive link k and then to finish, or 2^64-1 where the bus cannot drive it from here.
+    #[tactic(auto, unfolding(crate::specs::Steps::driving_step))]
+    fn drive_value(&self, k: usize) -> u64
+        requires { k < link_count (network_of self.now) }
+        ensures { result ≡ min (drive_value self.now k) no_finish }
+    {
+        let tables = self.tables;
+        let job = tables.job;
+        let cost = job.network.drive(k);
+        if job.network.from(k) != self.node || CLOSED <= cost {
+            return NO_FINISH;
+        }
+        let behind = value(job.network, tables.table, self.riders, job.network.to(k));
+        packed_step(job.request.bus_weight * cost).saturating_add(behind)
     }
 }

@@ -1,0 +1,74 @@
+-- The bus's steps while the plan is read off the tables.
+use Rattle.std.specs.Prelude.{ℕ, ◌+◌, ◌*◌, ◌/◌, ◌%◌, ◌≤◌, ◌<◌, ◌≡◌, cond, ◌||◌, List, length, take, leb}
+use Rattle.rules.specs.Checks.{differ}
+use Rattle.rules.specs.Limits.{closed, first_drive, step_range, packed_step}
+use Rattle.rules.specs.Network.{from, to, drive}
+use Rattle.rules.specs.Request.{bus_weight_of}
+use Rattle.rules.specs.Plans.{Has, all_riders, RightPlan}
+use Rattle.rules.specs.Rooms.{Kept, Written, no_finish}
+use Rattle.rules.specs.declared.Request.{Request}
+use Rattle.finish.specs.Sets.{Subset}
+use Rattle.right.specs.Reading.{Tight, NextStep, Reading, plan_value}
+use Rattle.table.specs.declared.tables.Tables.{Tables}
+use Rattle.search.specs.Known.{value_in}
+use Rattle.search.specs.declared.bus.Bus.{Bus}
+use Rattle.search.specs.declared.bus.Move.{Move}
+
+abbrev pub network_of : Bus → List ℕ
+network_of bus = bus.tables.now.job.now.network
+
+abbrev pub request_of : Bus → Request
+request_of bus = bus.tables.now.job.now.request
+
+-- what the table holds where the bus stands
+abbrev pub here : Bus → ℕ
+here bus = value_in bus.tables.now bus.riders bus.node
+
+-- what it takes to drive link k from v, or none where that is no drive
+unfoldable pub driving_step : List ℕ → ℕ → ℕ → ℕ → ℕ
+driving_step network weight v k =
+    cond (differ (from network k) v || leb closed (drive network k)) no_finish (packed_step (weight * drive network k))
+
+-- what it takes to drive link k, and then to finish
+abbrev pub drive_value : Bus → ℕ → ℕ
+drive_value bus k =
+    driving_step (network_of bus) (bus_weight_of (request_of bus)) bus.node k + value_in bus.tables.now bus.riders (to (network_of bus) k)
+
+-- The step leads from where the bus stands to x, leaves S to be met, and is tight.
+abbrev pub TightStep : Bus → ℕ → ℕ → ℕ → Type 0
+TightStep bus = Tight (network_of bus) (request_of bus) (value_in bus.tables.now) bus.riders bus.node
+
+-- no meeting is tight
+abbrev pub NoMeeting : Bus → Type 0
+NoMeeting bus = (j S x : ℕ) → j < first_drive → TightStep bus j S x → ⊥
+
+-- Of the riders still to be met, those of `left` are not tried yet, and no other is tightly met where the bus stands.
+pub record Trying (bus : Bus) (left : ℕ) : Type 0 where
+  pub of : Subset left bus.riders
+  pub tried : (j S x : ℕ) → j < first_drive → (Has left j → ⊥) → TightStep bus j S x → ⊥
+
+-- The lowest tight step, and the bus behind it.
+pub record Next (bus : Bus) (move : Move) : Type 0 where
+  pub lowest : NextStep (network_of bus) (request_of bus) (value_in bus.tables.now) bus.riders bus.node move.step move.bus.riders move.bus.node
+  pub same : move.bus.tables.now ≡ bus.tables.now
+
+-- The bus stands at the source, with every rider to be met.
+pub record AtSource (tables : Tables) (bus : Bus) : Type 0 where
+  pub all : bus.riders ≡ all_riders tables.job.now.request
+  pub source : bus.node ≡ tables.job.now.request.source
+  pub same : bus.tables.now ≡ tables
+
+-- So many steps are written at the start of the room.
+pub record Writing (tables : Tables) (before : List ℕ) (bus : Bus) (i : ℕ) (after : List ℕ) : Type 0 where
+  pub short : i ≤ length after
+  pub reading : Reading tables.job.now.network tables.job.now.request (value_in tables) (take i after) bus.riders bus.node
+  pub kept : Kept i before after
+  pub same : bus.tables.now ≡ tables
+
+-- The right plan stands at the start of the room; its cost and its number of steps are what the table packs.
+pub record PlanWritten (tables : Tables) (before after : List ℕ) : Type 0 where
+  pub plan : List ℕ
+  pub right : RightPlan tables.job.now.network tables.job.now.request plan
+      (plan_value tables.job.now.request (value_in tables) / step_range)
+  pub count : plan_value tables.job.now.request (value_in tables) % step_range ≡ length plan
+  pub written : Written plan before after
