@@ -3,7 +3,7 @@ use crate::plans::{MOST_STEPS, Plan};
 use crate::surveys::Survey;
 use crate::towns::*;
 use crate::writing::*;
-use rules::Planned;
+use rules::Refusal;
 use std::alloc::AllocError;
 use std::{array, io};
 
@@ -65,10 +65,10 @@ fn first(room: &[u8], count: usize) -> &[u8] {
     room.get(..count).unwrap_or(room)
 }
 
-fn said(planned: Planned) -> [u64; SAID] {
+fn said(planned: Result<rules::Plan, Refusal>) -> [u64; SAID] {
     match planned {
-        Planned::Plan { cost, count } => [0, cost, count as u64],
-        Planned::Refused(refusal) => [u64::from(refusal.number), refusal.place as u64, 0],
+        Ok(plan) => [0, plan.cost, plan.count as u64],
+        Err(refusal) => [u64::from(refusal.fault.number()), refusal.place as u64, 0],
     }
 }
 

@@ -1,7 +1,7 @@
 // The two records of a town, by the writers.
 use crate::towns::*;
 use arrayvec::ArrayVec;
-use rules::{Recorded, Request};
+use rules::Request;
 use std::alloc::AllocError;
 use std::array;
 use writers::{write_network, write_request};
@@ -19,19 +19,12 @@ pub fn put_network(town: &Town, room: &mut [u8; NETWORK]) -> Result<usize, Alloc
     for link in &town.links {
         links.extend([link.from, link.to, link.drive, link.walk])?;
     }
-    Ok(length(write_network(usize::from(town.nodes), &links, room)))
+    Ok(write_network(usize::from(town.nodes), &links, room).unwrap_or(0))
 }
 
 // Writes the town's request, and gives the record's length, or 0 where it is refused.
 pub fn put_request(town: &Town, room: &mut [u8; REQUEST]) -> usize {
-    length(write_request(usize::from(town.nodes), request(town), room))
-}
-
-fn length(recorded: Recorded) -> usize {
-    let Recorded::Length(length) = recorded else {
-        return 0;
-    };
-    length
+    write_request(usize::from(town.nodes), request(town), room).unwrap_or(0)
 }
 
 fn request(town: &Town) -> Request {

@@ -30,7 +30,11 @@ pub fn put_answer(
     let Ok(plan) = answer else {
         let refusal = answer.unwrap_err();
         let number = refusal.fault.number();
-        return put_line(lines::refused_line(u64::from(number), refusal.place as u64), text, 0);
+        return put_line(
+            lines::refused_line(u64::from(number), refusal.place as u64),
+            text,
+            0,
+        );
     };
     let end = put_line(lines::ok_line(plan.cost, plan.count as u64), text, 0);
     let start = records::inner::request_source(request);
