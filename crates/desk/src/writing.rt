@@ -32,7 +32,7 @@ pub fn tivelgor_write_request(n: usize, request: &[u64], room: &mut [u8]) -> u64
     length_told(write_request(n, value_of(request), room))
 }
 
-// The value that a list holds.
+// The value that a list holds. It is filled as that of a record is; what the two read from shares nothing.
 fn value_of(numbers: &[u64]) -> Request
     requires { length numbers.now ≡ value_numbers }
     ensures { result ≡ value_of numbers.now }

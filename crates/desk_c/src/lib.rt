@@ -1,4 +1,5 @@
-// The desk's library for C: its functions under their names, as include/tivelgor.h declares them.
+// The desk's library for C: its functions under their names, as include/tivelgor.h declares them. The clauses stand a second time, as what
+// C gets.
 #![tactic(auto)]
 
 ghost use Rattle.std.specs.Prelude.{◌≡◌};

@@ -10,7 +10,7 @@ use crate::riders::{RoutePrice, meet_riders};
 use records::inner::{Job, Network};
 use rules::{Refusal, Request};
 
-// The price of a route with its meeting positions, or refusal 32 to 37.
+// The price of a route with its meeting positions, or refusal 32 to 37. The request is one value, handed over whole; the job is made here.
 pub fn price_route(
     network: &Network,
     request: Request,

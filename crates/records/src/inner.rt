@@ -1,4 +1,5 @@
-// Numbers of a record that is known to be long enough. Only the other crates call these: hosts call the readers.
+// Numbers of a record that is known to be long enough, as the readers and `Network` read them. Only the other crates call these:
+// hosts call the readers. Each getter's name is the rules'; a field as a parameter would be no plainer.
 ghost use Rattle.std.specs.Prelude.{◌+◌, ◌<◌, ◌≤◌, ◌≡◌, length};
 ghost use Rattle.rules.specs.Numbers;
 ghost use Rattle.rules.specs.Network.{node_count, link_count, link_start, from, to, drive, walk};

@@ -40,7 +40,7 @@ fn both_read(network: &[u8], request: &[u8]) -> Result<Request, Refusal>
     Network::read(network)?.read_request(request)
 }
 
-// The value of a request that is as long as its rider count asks.
+// The value of a request that is as long as its rider count asks. A closure for `array::from_fn` would need a clause of its own.
 pub fn request_value(request: &[u8]) -> Request
     requires { (rider_count request.now ≤ most_riders)
         × (rider_start (rider_count request.now) ≤ length request.now) }

@@ -1,4 +1,5 @@
-// Places of the two records, and what a step takes in the work table.
+// Places of the two records, and what a step takes in the work table. Each start is a name of the rules; one function of two
+// numbers would hide it.
 ghost use Rattle.std.specs.Prelude.{◌^◌, ◌<◌, ◌≡◌};
 ghost use Rattle.rules.specs.Limits.{packed_step};
 ghost use Rattle.rules.specs.Network.{link_start};

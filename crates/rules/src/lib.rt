@@ -16,13 +16,14 @@ pub const MOST_RIDERS: usize = 7;
 
 pub const MOST_WEIGHT: usize = 100;
 
-// What a link costs for a use that it is closed to.
+// What a link costs for a use that it is closed to. Costs stay numbers in the code, as the record and the rules have them (1.4).
 pub const CLOSED: u64 = 65535;
 
 // What a place of walking distances holds where there is no walk.
 pub const NO_DISTANCE: u32 = 4294967295;
 
-// What a place of the search's table holds where there is no finish.
+// What a place of the search's table holds where there is no finish (3.3). Sums of what finishes take stop there, so that the least
+// is found without a test for none.
 pub const NO_FINISH: u64 = 18446744073709551615;
 
 // In a place of the table the cost counts for so much, and a step for 1.
@@ -41,7 +42,8 @@ pub const LONGEST_ROUTE: usize = 4095;
 // A host gets a refusal as this number or more.
 pub const FIRST_REFUSAL: u64 = 9223372036854775808;
 
-// What reading a network gives: its sizes, or 0 for each where the verdict is a refusal.
+// What reading a network gives: its sizes, or 0 for each where the verdict is a refusal. The rules ask for both (1.8), so this is
+// no `Result`; nor is what reading a request gives (1.9).
 #[derive(Clone, Copy)]
 pub struct NetworkRead {
     pub verdict: Result<(), Refusal>,

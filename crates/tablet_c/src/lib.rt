@@ -1,4 +1,4 @@
-// The tablet's library for C: its entry under its name, as include/tivelgor.h declares it.
+// The tablet's library for C: its entry under its name, as include/tivelgor.h declares it. The clauses stand a second time, as what C gets.
 #![tactic(auto)]
 
 ghost use Rattle.rules.specs.Answers.{Tablet};

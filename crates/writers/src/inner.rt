@@ -1,5 +1,5 @@
 // Numbers put into a room that is known to be long enough, the highest byte first. Whatever writes a record puts its numbers
-// by these.
+// by these. Room and place stay two parameters: a struct that holds a `&mut` has twice as many moments to speak of in a clause.
 ghost use Rattle.std.specs.Prelude.{◌+◌, ◌*◌, ◌≤◌, length};
 ghost use Rattle.rules.specs.Network.{opening_bytes, link_start, network_head};
 ghost use Rattle.rules.specs.Numbers.{bytes_of, twos_of};
