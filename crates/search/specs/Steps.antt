@@ -2,15 +2,15 @@
 use Rattle.std.specs.Prelude.{ℕ, ◌+◌, ◌*◌, ◌/◌, ◌%◌, ◌≤◌, ◌<◌, ◌≡◌, cond, ◌||◌, List, length, take, leb}
 use Rattle.rules.specs.Checks.{differ}
 use Rattle.rules.specs.Limits.{closed, first_drive, step_range, packed_step}
-use Rattle.rules.specs.Network.{from, to, drive}
-use Rattle.rules.specs.Request.{bus_weight_of}
+use Rattle.rules.specs.Network.{node_count, from, to, drive}
+use Rattle.rules.specs.Request.{rider_count_of, bus_weight_of}
 use Rattle.rules.specs.Plans.{Has, all_riders, RightPlan}
-use Rattle.rules.specs.Rooms.{Kept, Written, no_finish}
+use Rattle.rules.specs.Rooms.{Kept, Written, no_finish, step_places}
 use Rattle.rules.specs.declared.Request.{Request}
 use Rattle.finish.specs.Sets.{Subset}
-use Rattle.right.specs.Reading.{Tight, NextStep, Reading, plan_value}
+use Rattle.right.specs.Reading.{Tight, NextStep, Reading}
 use Rattle.table.specs.declared.tables.Tables.{Tables}
-use Rattle.search.specs.Known.{value_in}
+use Rattle.search.specs.Known.{Known, best_in, value_in}
 use Rattle.search.specs.declared.bus.Bus.{Bus}
 use Rattle.search.specs.declared.bus.Move.{Move}
 
@@ -58,6 +58,12 @@ pub record AtSource (tables : Tables) (bus : Bus) : Type 0 where
   pub source : bus.node ≡ tables.job.now.request.source
   pub same : bus.tables.now ≡ tables
 
+-- The plan may be written: the tables are known, the bus stands at the source, and there is room for the steps.
+pub record Planning (bus : Bus) (steps : List ℕ) : Type 0 where
+  pub known : Known bus.tables.now
+  pub from : AtSource bus.tables.now bus
+  pub room : step_places (node_count (network_of bus)) (rider_count_of (request_of bus)) ≤ length steps
+
 -- So many steps are written at the start of the room.
 pub record Writing (tables : Tables) (before : List ℕ) (bus : Bus) (i : ℕ) (after : List ℕ) : Type 0 where
   pub short : i ≤ length after
@@ -68,7 +74,6 @@ pub record Writing (tables : Tables) (before : List ℕ) (bus : Bus) (i : ℕ) (
 -- The right plan stands at the start of the room; its cost and its number of steps are what the table packs.
 pub record PlanWritten (tables : Tables) (before after : List ℕ) : Type 0 where
   pub plan : List ℕ
-  pub right : RightPlan tables.job.now.network tables.job.now.request plan
-      (plan_value tables.job.now.request (value_in tables) / step_range)
-  pub count : plan_value tables.job.now.request (value_in tables) % step_range ≡ length plan
+  pub right : RightPlan tables.job.now.network tables.job.now.request plan (best_in tables / step_range)
+  pub count : best_in tables % step_range ≡ length plan
   pub written : Written plan before after
