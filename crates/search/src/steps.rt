@@ -1,9 +1,9 @@
 // Reading the plan off the tables: the lowest step that makes up the value, time after time.
-ghost use Rattle.std.specs.Prelude.{◌<◌, ◌≡◌, MatchOption, min};
+ghost use Rattle.std.specs.Prelude.{ℕ, ◌<◌, ◌≡◌, MatchOption, min};
 ghost use Rattle.rules.specs.Network.{link_count};
 ghost use Rattle.rules.specs.Rooms.{no_finish};
 ghost use Rattle.search.specs.Known.{Known, Whole, best_in};
-ghost use Rattle.search.specs.Steps.{AtSource, Next, NoMeeting, Planning, PlanWritten, drive_value, here, network_of};
+ghost use Rattle.search.specs.Steps.{AtSource, Drives, LowestDrive, LowestMeeting, Meets, Next, Planning, PlanWritten, drive_value, here, network_of};
 
 use crate::bus::{Bus, Move};
 use rules::inner::packed_step;
@@ -67,10 +67,9 @@ impl<'a> Bus<'a> {
         }
     }
 
-    // The lowest tight meeting, where there is one.
+    // The lowest meeting that makes up the value, where there is one.
     fn next_meeting(&self) -> Option<Move<'a>>
-        requires { Known self.now.tables.now }
-        ensures { MatchOption result (NoMeeting self.now) (Next self.now) }
+        ensures { MatchOption result ((j : ℕ) → Meets self.now j → ⊥) (LowestMeeting self.now) }
     {
         let here = self.value();
         let mut left = self.riders;
@@ -91,10 +90,10 @@ impl<'a> Bus<'a> {
         None
     }
 
-    // The lowest tight drive, where some step is tight and no meeting is.
+    // The lowest drive that makes up the value, where there is one.
     fn next_drive(&self) -> Move<'a>
-        requires { Known self.now.tables.now × (0 < here self.now) × NoMeeting self.now }
-        ensures { Next self.now result }
+        requires { (k : ℕ) × Drives self.now k }
+        ensures { LowestDrive self.now result }
     {
         let tables = self.tables;
         let job = tables.job;
