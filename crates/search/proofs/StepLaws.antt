@@ -12,7 +12,7 @@ use Rattle.rules.specs.Network.{link_count}
 use Rattle.rules.specs.Plans.{without, drive_step}
 use Rattle.rules.specs.Rooms.{no_finish}
 use Rattle.finish.specs.Sets.{LowestRider}
-use Rattle.finish.proofs.Sets.{nobody_has, without_others, subset_all, subset_less}
+use Rattle.finish.proofs.Sets.{nobody_has, without_others, subset_less}
 use Rattle.right.specs.Reading.{Step, meets, drives}
 use Rattle.right.proofs.Reading.{some_tight}
 use Rattle.search.specs.Known.{Known}
@@ -22,9 +22,6 @@ use Rattle.search.specs.declared.bus.Move.{Move}
 use Rattle.search.proofs.TightLaws.{TightStep, member, meeting_tight, tight_meeting, driving_tight, tight_drive}
 
 module _ {bus : Bus} where
-  pub trying_none : Trying bus bus.riders
-  trying_none = record { of = subset_all; tried = λ j out met. out met.0 }
-
   module _ {left : ℕ} (so : Trying bus left) where
     pub trying_more : (j : ℕ) → LowestRider left j → (here bus ≡ meeting_value bus j → ⊥) → Trying bus (without left j)
     trying_more j low loose =

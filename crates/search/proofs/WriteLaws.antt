@@ -3,7 +3,7 @@ use Prim.Native.Nat.{ℕ, ◌+◌, ◌%◌, ◌≤◌, ◌<◌}
 use native.Mathlib.Omega.{arith}
 use native.Mathlib.Decide.{ℕ_discrete}
 use native.Mathlib.Numerals.{add-one}
-use mathlib.Core.Path.{◌≡◌, refl, sym, subst, ◌∙◌, ap}
+use mathlib.Core.Path.{◌≡◌, sym, subst, ◌∙◌, ap}
 use mathlib.Core.Logic.{⊎_elim}
 use mathlib.Core.List.{List, ◌++◌}
 use lib.ListN.{length, set, take, drop, length-set, take-append-drop}
@@ -14,11 +14,11 @@ use Rattle.rules.specs.Request.{rider_count_of}
 use Rattle.rules.specs.Rooms.{no_finish}
 use Rattle.rules.specs.Plans.{all_riders}
 use Rattle.rules.proofs.PlanLaws.{all_riders_below}
-use Rattle.rules.proofs.RoomLaws.{kept_none, kept_then, kept_set}
+use Rattle.rules.proofs.RoomLaws.{kept_then, kept_set}
 use Rattle.rules.proofs.WritingLaws.{kept_later}
 use Rattle.finish.proofs.Bounds.{least_holds, best_bounded, unpacks}
 use Rattle.right.specs.Reading.{NextStep}
-use Rattle.right.proofs.Reading.{reading_start, reading_next, reading_room, reading_done}
+use Rattle.right.proofs.Reading.{reading_next, reading_room, reading_done}
 use Rattle.table.specs.declared.tables.Tables.{Tables}
 use Rattle.search.specs.Known.{best_in, value_in}
 use Rattle.search.specs.declared.bus.Bus.{Bus}
@@ -42,16 +42,6 @@ module _ {start : Bus} {before : List ℕ} (planning : Planning start before) wh
       omega (arith, planning.room, rw (ones-ones (rider_count_of q)) at short, (unpacks job.sound job.fits below starts has.best has.packs).remainder))
       (λ none. absurd (omega (arith, finite)))
       (least_holds job.sound job.fits below starts (planning.known.filled (all_riders q) q.source below starts))
-
-  pub writing_none : Writing start.tables.now before start 0 before
-  writing_none =
-      let job = start.tables.now.job.now in
-      record {
-        short = omega arith;
-        reading = rw (planning.from.all, planning.from.source) (reading_start job.sound job.fits planning.known.filled finite);
-        kept = kept_none;
-        same = refl;
-      }
 
   module _ {bus : Bus} {i : ℕ} {after : List ℕ} (so : Writing start.tables.now before bus i after) where
     stands_there : here bus ≡ value_in start.tables.now bus.riders bus.node

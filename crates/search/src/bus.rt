@@ -3,8 +3,7 @@ ghost use Rattle.search.specs.Known.{Stands};
 
 use table::inner::Tables;
 
-// Where the bus stands, and who is still to be met: the table has a finish from there. That the tables are filled (`Known`)
-// stands in the contracts: it has ways in it, and a ghost field may only hold what has one proof.
+// Where the bus stands, and who is still to be met: the table has a finish from there.
 #[derive(Clone, Copy)]
 pub struct Bus<'a> {
     pub tables: &'a Tables<'a, 'a>,
