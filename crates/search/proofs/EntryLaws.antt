@@ -1,34 +1,16 @@
 -- The entry's refusals, in the order of its checks.
-use Prim.Native.Nat.{ℕ, ◌+◌, ◌-◌, ◌*◌, ◌≤◌}
-use native.Mathlib.Omega.{arith}
-use native.Mathlib.Nat.{mul-le-mul}
+use Prim.Native.Nat.{ℕ}
 use mathlib.Core.Path.{◌≡◌, refl, ◌∙◌}
 use mathlib.Core.List.{List}
 use lib.ListN.{length}
-use lib.Pow.{pow_mono}
 use Rattle.std.specs.Prelude.{Err}
 use Rattle.rules.specs.Checks.{Check, Accepted, first_of}
-use Rattle.rules.specs.Limits.{most_nodes, most_riders}
 use Rattle.rules.specs.Network.{node_count, network_checks, network_verdict}
 use Rattle.rules.specs.Request.{record_checks, request_checks, request_value, rider_count_of}
-use Rattle.rules.specs.Rooms.{distance_places, table_places, Lent}
+use Rattle.rules.specs.Rooms.{Lent}
 use Rattle.rules.specs.Answers.{Outcome, refusal_outcome, Searched, Searching, room_checks, search_checks, refused}
 use Rattle.rules.specs.declared.refusal.Refusal.{Refusal}
 use Rattle.rules.proofs.Order.{then, in_order}
-
--- What the largest rooms need.
-module _ (n l : ℕ) (nodes : n ≤ most_nodes) (riders : l ≤ most_riders) where
-  pub distances_few : distance_places n l ≤ distance_places most_nodes most_riders
-  distances_few = mul-le-mul riders nodes
-
-  pub table_few : table_places n l ≤ table_places most_nodes most_riders
-  table_few = mul-le-mul (pow_mono {i = l} {j = most_riders} riders) nodes
-
-  pub steps_few : (l + 1) * (n - 1) ≤ (most_riders + 1) * (most_nodes - 1)
-  steps_few =
-      let more : l + 1 ≤ most_riders + 1 = omega arith in
-      let links : n - 1 ≤ most_nodes - 1 = omega arith in
-      mul-le-mul more links
 
 abbrev pub rooms_of : List ℕ → List ℕ → Lent → List Check
 rooms_of network request rooms =

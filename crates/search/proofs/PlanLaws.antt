@@ -18,8 +18,8 @@ use Rattle.finish.proofs.Bounds.{holds_least, unpacks}
 use Rattle.right.specs.Reading.{plan_value}
 use Rattle.table.specs.Places.{value_at}
 use Rattle.table.specs.declared.tables.Tables.{Tables}
-use Rattle.search.specs.Known.{Known, value_in}
-use Rattle.search.specs.Steps.{network_of, request_of, here, AtSource, PlanWritten}
+use Rattle.search.specs.Known.{Known, best_in, value_in}
+use Rattle.search.specs.Steps.{here, AtSource, Planning, PlanWritten}
 use Rattle.search.specs.declared.bus.Bus.{Bus}
 
 -- Where the table has no value for the plans, there is none.
@@ -47,18 +47,19 @@ module _ {tables : Tables} {bus : Bus} (from : AtSource tables bus) {d₀ t₀ :
         filled = λ R v small h. holds_least job.sound job.fits small h (table.holds R v small h);
       }
 
-  pub ready : step_places (node_count tables.job.now.network) (rider_count_of tables.job.now.request) ≤ length s₀
-      → Known bus.tables.now × AtSource bus.tables.now bus × (step_places (node_count (network_of bus)) (rider_count_of (request_of bus)) ≤ length s₀)
+  pub ready : step_places (node_count tables.job.now.network) (rider_count_of tables.job.now.request) ≤ length s₀ → Planning bus s₀
   ready room =
+      let (all, there, places) =
       subst
       (λ (t : Tables). Known t × AtSource t bus × (step_places (node_count t.job.now.network) (rider_count_of t.job.now.request) ≤ length s₀))
-      (sym from.same) (known, from, room)
+      (sym from.same) (known, from, room) in
+      record { known = all; from = there; room = places }
 
   pub answer_plan : {s : List ℕ} {best : ℕ} → PlanWritten bus.tables.now s₀ s → best ≡ here bus
       → Searching Accepted tables.job.now.network tables.job.now.request (lent d₀ t₀ s₀) (lent tables.distances.now tables.table.now s)
       (gives (best / step_range ∷ best % step_range ∷ []))
   answer_plan {best = best} written reads =
       let so = rw from.same at written in
-      let told : best ≡ plan_value tables.job.now.request (value_in tables) =
+      let told : best ≡ best_in tables =
       reads ∙ ap (λ (t : Tables). value_in t bus.riders bus.node) from.same ∙ rw (from.all, from.source) in
       planned so.plan _ refl walked table so.right (rw (told, so.count)) so.written

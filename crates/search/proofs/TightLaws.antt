@@ -6,7 +6,7 @@ use mathlib.Core.Path.{◌≡◌, refl, ◌∙◌}
 use mathlib.Core.Logic.{inl}
 use mathlib.Core.List.{List}
 use borrow.Author.Tests.{eq-eqb, ne_eqb, le-leb, lt-leb}
-use Rattle.rules.specs.Network.{link_count, from, to, drive}
+use Rattle.rules.specs.Network.{from, to, drive}
 use Rattle.rules.specs.Request.{rider_weight_of, rider_count_of, bus_weight_of}
 use Rattle.rules.specs.Walks.{no_distance}
 use Rattle.rules.specs.Routes.{RiderHolds}
@@ -16,13 +16,12 @@ use Rattle.rules.proofs.RiderLaws.{rider_holds_unique, held_walks}
 use Rattle.rules.specs.Limits.{closed, packed_step, first_drive}
 use Rattle.finish.proofs.Sets.{has_below}
 use Rattle.finish.proofs.Bounds.{rider_bounded}
-use Rattle.right.specs.Reading.{Step, meets, drives}
+use Rattle.right.specs.Reading.{Step, meets, drives, Tight}
 use Rattle.table.specs.Places.{value_at}
-use Rattle.table.specs.Meetings.{meeting_at}
 use Rattle.table.proofs.MeetingLaws.{cannot_meet, can_meet}
 use Rattle.search.specs.Known.{Known, value_in}
 use Rattle.search.specs.declared.bus.Bus.{Bus}
-use Rattle.search.specs.Steps.{network_of, request_of, here, driving_step, drive_value, TightStep}
+use Rattle.search.specs.Steps.{network_of, request_of, here, driving_step, Meets, Drives}
 
 -- what a drive from v takes
 pub not_driven : (network : List ℕ) (weight v k : ℕ) → (from network k ≡ v → ⊥) → no_finish ≡ driving_step network weight v k
@@ -39,22 +38,22 @@ pub open_drive : (network : List ℕ) (weight v k : ℕ) → from network k ≡ 
 unfolding driving_step
 open_drive network weight v k e h = simp (eq-eqb _ _ e, lt-leb _ _ h)
 
+-- The step leads from where the bus stands to x, leaves S to be met, and is tight.
+abbrev pub TightStep : Bus → ℕ → ℕ → ℕ → Type 0
+TightStep bus = Tight (network_of bus) (request_of bus) (value_in bus.tables.now) bus.riders bus.node
+
 module _ (bus : Bus) where
   -- A rider of the set is a rider of the request.
   pub member : (j : ℕ) → Has bus.riders j → j < rider_count_of (request_of bus)
   member j has = has_below bus.riders j (rider_count_of (request_of bus)) bus.stands.set has
-
-  -- what it takes to meet rider j, and then to finish
-  abbrev pub meeting_value : ℕ → ℕ
-  meeting_value j = meeting_at bus.tables.now j bus.node + value_in bus.tables.now (without bus.riders j) bus.node
 
   module _ (known : Known bus.tables.now) where
     holds : {j : ℕ} → Has bus.riders j → RiderHolds (network_of bus) (request_of bus) j bus.node (value_at (network_of bus) bus.tables.now.distances.now j bus.node)
     holds {j} has = known.walks j bus.node (member j has) bus.stands.node
 
     -- a meeting that makes up the value is tight
-    pub meeting_tight : (j : ℕ) → Has bus.riders j → here bus ≡ meeting_value j → TightStep bus j (without bus.riders j) bus.node
-    meeting_tight j has e =
+    pub meeting_tight : (j : ℕ) → Meets bus j → TightStep bus j (without bus.riders j) bus.node
+    meeting_tight j (has, e) =
         let weight = rider_weight_of (request_of bus) j in
         let distance = value_at (network_of bus) bus.tables.now.distances.now j bus.node in
         elim (ℕ_discrete distance no_distance) [
@@ -68,11 +67,11 @@ module _ (bus : Bus) where
         ]
 
     -- a step below the first drive that is tight is such a meeting
-    pub tight_meeting : {j S x : ℕ} → j < first_drive → TightStep bus j S x → Has bus.riders j × (here bus ≡ meeting_value j)
+    pub tight_meeting : {j S x : ℕ} → j < first_drive → TightStep bus j S x → Meets bus j
     tight_meeting {j} {S} {x} low so = go so.leads so.tight
       where
         go : {cost : ℕ} → Step (network_of bus) (request_of bus) bus.riders bus.node j S x cost
-            → here bus ≡ packed_step cost + value_in bus.tables.now S x → Has bus.riders j × (here bus ≡ meeting_value j)
+            → here bus ≡ packed_step cost + value_in bus.tables.now S x → Meets bus j
         go (meets d has walks left stays costs) tight =
             let distance = value_at (network_of bus) bus.tables.now.distances.now j bus.node in
             let same : distance ≡ d = rider_holds_unique (holds has) (inl walks) in
@@ -82,9 +81,8 @@ module _ (bus : Bus) where
         go (drives k w step leads stays costs) tight = absurd (omega arith)
 
   -- a drive that makes up the value is tight
-  pub driving_tight : (k : ℕ) → k < link_count (network_of bus) → here bus ≡ drive_value bus k
-      → TightStep bus (drive_step k) bus.riders (to (network_of bus) k)
-  driving_tight k exists e =
+  pub driving_tight : (k : ℕ) → Drives bus k → TightStep bus (drive_step k) bus.riders (to (network_of bus) k)
+  driving_tight k (exists, e) =
       let network = network_of bus in
       let weight = bus_weight_of (request_of bus) in
       elim (ℕ_discrete (from network k) bus.node) [
@@ -102,12 +100,12 @@ module _ (bus : Bus) where
       ]
 
   -- a drive step that is tight is such a drive
-  pub tight_drive : {k S x : ℕ} → TightStep bus (drive_step k) S x → (k < link_count (network_of bus)) × (here bus ≡ drive_value bus k)
+  pub tight_drive : {k S x : ℕ} → TightStep bus (drive_step k) S x → Drives bus k
   tight_drive {k} {S} {x} so = go so.leads so.tight
     where
       go : {cost : ℕ} → Step (network_of bus) (request_of bus) bus.riders bus.node (drive_step k) S x cost
           → here bus ≡ packed_step cost + value_in bus.tables.now S x
-          → (k < link_count (network_of bus)) × (here bus ≡ drive_value bus k)
+          → Drives bus k
       go (meets d has walks left stays costs) tight = absurd (omega (arith, member (drive_step k) has, bus.tables.now.job.now.fits.riders))
       go (drives i w step leads stays costs) tight =
           let same : i ≡ k = omega arith in

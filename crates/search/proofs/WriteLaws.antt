@@ -3,36 +3,34 @@ use Prim.Native.Nat.{ℕ, ◌+◌, ◌%◌, ◌≤◌, ◌<◌}
 use native.Mathlib.Omega.{arith}
 use native.Mathlib.Decide.{ℕ_discrete}
 use native.Mathlib.Numerals.{add-one}
-use mathlib.Core.Path.{◌≡◌, refl, sym, subst, ◌∙◌, ap}
+use mathlib.Core.Path.{◌≡◌, sym, subst, ◌∙◌, ap}
 use mathlib.Core.Logic.{⊎_elim}
 use mathlib.Core.List.{List, ◌++◌}
 use lib.ListN.{length, set, take, drop, length-set, take-append-drop}
 use lib.Seq.{take-suc-set, length-take-le}
 use lib.Count.{ones-ones}
 use Rattle.rules.specs.Limits.{step_range}
-use Rattle.rules.specs.Network.{node_count}
 use Rattle.rules.specs.Request.{rider_count_of}
-use Rattle.rules.specs.Rooms.{no_finish, step_places}
+use Rattle.rules.specs.Rooms.{no_finish}
 use Rattle.rules.specs.Plans.{all_riders}
 use Rattle.rules.proofs.PlanLaws.{all_riders_below}
-use Rattle.rules.proofs.RoomLaws.{kept_none, kept_then, kept_set}
+use Rattle.rules.proofs.RoomLaws.{kept_then, kept_set}
 use Rattle.rules.proofs.WritingLaws.{kept_later}
 use Rattle.finish.proofs.Bounds.{least_holds, best_bounded, unpacks}
-use Rattle.right.specs.Reading.{NextStep, plan_value}
-use Rattle.right.proofs.Reading.{reading_start, reading_next, reading_room, reading_done}
+use Rattle.right.specs.Reading.{NextStep}
+use Rattle.right.proofs.Reading.{reading_next, reading_room, reading_done}
 use Rattle.table.specs.declared.tables.Tables.{Tables}
-use Rattle.search.specs.Known.{Known, value_in}
+use Rattle.search.specs.Known.{best_in, value_in}
 use Rattle.search.specs.declared.bus.Bus.{Bus}
-use Rattle.search.specs.Steps.{network_of, request_of, here, Next, AtSource, Writing, PlanWritten}
+use Rattle.search.specs.Steps.{request_of, here, Next, Planning, Writing, PlanWritten}
 use Rattle.search.specs.declared.bus.Move.{Move}
 
-module _ (start : Bus) (known : Known start.tables.now) (from : AtSource start.tables.now start) (before : List ℕ)
-    (room : step_places (node_count (network_of start)) (rider_count_of (request_of start)) ≤ length before) where
-  finite : plan_value (request_of start) (value_in start.tables.now) < no_finish
-  finite = rw (from.all, from.source) at start.stands.finite
+module _ {start : Bus} {before : List ℕ} (planning : Planning start before) where
+  finite : best_in start.tables.now < no_finish
+  finite = rw (planning.from.all, planning.from.source) at start.stands.finite
 
   -- The plan has no more steps than there is room.
-  plan_room : plan_value (request_of start) (value_in start.tables.now) % step_range ≤ length before
+  plan_room : best_in start.tables.now % step_range ≤ length before
   plan_room =
       let job = start.tables.now.job.now in
       let q = request_of start in
@@ -41,19 +39,9 @@ module _ (start : Bus) (known : Known start.tables.now) (from : AtSource start.t
       ⊎_elim
       (λ has.
       let short = (best_bounded job.sound job.fits below starts has.best).short in
-      omega (arith, room, rw (ones-ones (rider_count_of q)) at short, (unpacks job.sound job.fits below starts has.best has.packs).remainder))
+      omega (arith, planning.room, rw (ones-ones (rider_count_of q)) at short, (unpacks job.sound job.fits below starts has.best has.packs).remainder))
       (λ none. absurd (omega (arith, finite)))
-      (least_holds job.sound job.fits below starts (known.filled (all_riders q) q.source below starts))
-
-  pub writing_none : Writing start.tables.now before start 0 before
-  writing_none =
-      let job = start.tables.now.job.now in
-      record {
-        short = omega arith;
-        reading = rw (from.all, from.source) (reading_start job.sound job.fits known.filled finite);
-        kept = kept_none;
-        same = refl;
-      }
+      (least_holds job.sound job.fits below starts (planning.known.filled (all_riders q) q.source below starts))
 
   module _ {bus : Bus} {i : ℕ} {after : List ℕ} (so : Writing start.tables.now before bus i after) where
     stands_there : here bus ≡ value_in start.tables.now bus.riders bus.node
@@ -62,7 +50,7 @@ module _ (start : Bus) (known : Known start.tables.now) (from : AtSource start.t
     room_left : 0 < here bus → i < length after
     room_left some =
         let job = start.tables.now.job.now in
-        let more = reading_room job.sound job.fits known.filled so.reading (rw stands_there at some) in
+        let more = reading_room job.sound job.fits planning.known.filled so.reading (rw stands_there at some) in
         omega (arith, so.kept.size, plan_room, length-take-le i after so.short, more)
 
     -- one step more
@@ -74,7 +62,7 @@ module _ (start : Bus) (known : Known start.tables.now) (from : AtSource start.t
           short = rw length-set (omega (arith, left));
           reading =
               rw (add-one, take-suc-set after i move.step left)
-              (reading_next job.sound job.fits known.filled so.reading (subst (λ (t : Tables). NextStep t.job.now.network t.job.now.request (value_in t) bus.riders bus.node move.step move.bus.riders move.bus.node) so.same next.lowest));
+              (reading_next job.sound job.fits planning.known.filled so.reading (subst (λ (t : Tables). NextStep t.job.now.network t.job.now.request (value_in t) bus.riders bus.node move.step move.bus.riders move.bus.node) so.same next.lowest));
           kept = kept_then (kept_later (omega arith) so.kept) (kept_set after i move.step (omega arith));
           same = next.same ∙ so.same;
         }
@@ -83,7 +71,7 @@ module _ (start : Bus) (known : Known start.tables.now) (from : AtSource start.t
     pub writing_done : here bus ≡ 0 → PlanWritten start.tables.now before after
     writing_done none =
         let job = start.tables.now.job.now in
-        let (right, count) = reading_done job.sound job.fits known.filled so.reading (rw stands_there at none) in
+        let (right, count) = reading_done job.sound job.fits planning.known.filled so.reading (rw stands_there at none) in
         let rest = so.kept.later ∙ ap (λ (k : ℕ). drop k before) (sym (length-take-le i after so.short)) in
         record {
           plan = take i after;

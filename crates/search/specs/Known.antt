@@ -3,6 +3,7 @@ use Rattle.std.specs.Prelude.{ℕ, ◌^◌, ◌≤◌, ◌<◌, length}
 use Rattle.rules.specs.Network.{node_count}
 use Rattle.rules.specs.Request.{rider_count_of}
 use Rattle.rules.specs.Rooms.{table_places, no_finish}
+use Rattle.right.specs.Reading.{plan_value}
 use Rattle.table.specs.Filling.{WalkedBelow, FilledBelow}
 use Rattle.table.specs.Places.{value_at}
 use Rattle.table.specs.declared.tables.Tables.{Tables}
@@ -10,6 +11,10 @@ use Rattle.table.specs.declared.tables.Tables.{Tables}
 -- what the work table holds for a rider set and a node
 abbrev pub value_in : Tables → ℕ → ℕ → ℕ
 value_in tables = value_at tables.job.now.network tables.table.now
+
+-- the value of the plans
+abbrev pub best_in : Tables → ℕ
+best_in tables = plan_value tables.job.now.request (value_in tables)
 
 -- The walking distances of all riders, and the least finishes from everywhere.
 pub record Known (tables : Tables) : Type 0 where

@@ -1,11 +1,9 @@
 // Reading the plan off the tables: the lowest step that makes up the value, time after time.
-ghost use Rattle.std.specs.Prelude.{◌+◌, ◌*◌, ◌≤◌, ◌<◌, ◌≡◌, MatchOption, length, min};
-ghost use Rattle.rules.specs.Network.{node_count, link_count};
-ghost use Rattle.rules.specs.Request.{rider_count_of};
-ghost use Rattle.rules.specs.Rooms.{no_finish, step_places};
-ghost use Rattle.right.specs.Reading.{plan_value};
-ghost use Rattle.search.specs.Known.{Known, Whole, value_in};
-ghost use Rattle.search.specs.Steps.{AtSource, Next, NoMeeting, PlanWritten, drive_value, here, network_of, request_of};
+ghost use Rattle.std.specs.Prelude.{ℕ, ◌<◌, ◌≡◌, MatchOption, min};
+ghost use Rattle.rules.specs.Network.{link_count};
+ghost use Rattle.rules.specs.Rooms.{no_finish};
+ghost use Rattle.search.specs.Known.{Known, Whole, best_in};
+ghost use Rattle.search.specs.Steps.{AtSource, Drives, LowestDrive, LowestMeeting, Meets, Next, Planning, PlanWritten, drive_value, here, network_of};
 
 use crate::bus::{Bus, Move};
 use rules::inner::packed_step;
@@ -16,7 +14,7 @@ impl<'a> Bus<'a> {
     // At the source with every rider to be met, where the tables know a finish from there.
     pub fn at_source(tables: &'a Tables<'a, 'a>) -> Option<Self>
         requires { Whole tables.now }
-        ensures { MatchOption result (plan_value tables.now.job.now.request (value_in tables.now) ≡ no_finish) (AtSource tables.now) }
+        ensures { MatchOption result (best_in tables.now ≡ no_finish) (AtSource tables.now) }
     {
         let job = tables.job;
         let riders = rider_bit(job.request.rider_count as u32) - 1;
@@ -42,8 +40,7 @@ impl<'a> Bus<'a> {
 
     // Writes the steps of the right plan at the start of the room.
     pub fn write_plan(self, steps: &mut [u16])
-        requires { Known self.tables.now × AtSource self.tables.now self
-            × (step_places (node_count (network_of self)) (rider_count_of (request_of self)) ≤ length steps.old) }
+        requires { Planning self steps.old }
         ensures { PlanWritten self.entry.tables.now steps.old steps.new }
     {
         let mut bus = self;
@@ -70,10 +67,9 @@ impl<'a> Bus<'a> {
         }
     }
 
-    // The lowest tight meeting, where there is one.
+    // The lowest meeting that makes up the value, where there is one.
     fn next_meeting(&self) -> Option<Move<'a>>
-        requires { Known self.now.tables.now }
-        ensures { MatchOption result (NoMeeting self.now) (Next self.now) }
+        ensures { MatchOption result ((j : ℕ) → Meets self.now j → ⊥) (LowestMeeting self.now) }
     {
         let here = self.value();
         let mut left = self.riders;
@@ -94,10 +90,10 @@ impl<'a> Bus<'a> {
         None
     }
 
-    // The lowest tight drive, where some step is tight and no meeting is.
+    // The lowest drive that makes up the value, where there is one.
     fn next_drive(&self) -> Move<'a>
-        requires { Known self.now.tables.now × (0 < here self.now) × NoMeeting self.now }
-        ensures { Next self.now result }
+        requires { (k : ℕ) × Drives self.now k }
+        ensures { LowestDrive self.now result }
     {
         let tables = self.tables;
         let job = tables.job;
