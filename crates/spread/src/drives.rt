@@ -66,10 +66,15 @@ fn shorten(row: &mut [u64], near: usize, far: usize, step: u64) -> bool
     requires { (near < length row.old) × (far < length row.old) }
     ensures { Lowered far near step row.old row.new result }
 {
-    let sum = step.saturating_add(row[near]);
-    if row[far] <= sum {
+    let low = row[near];
+    let high = row[far];
+    // Two tests, and no sum that saturates: along a street, where each link waits for the one before, that took twice as long.
+    if high <= low {
         return false;
     }
-    row[far] = sum;
+    if high - low <= step {
+        return false;
+    }
+    row[far] = step + low;
     true
 }

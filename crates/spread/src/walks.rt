@@ -63,16 +63,15 @@ impl<'a> Links for Walks<'a> {
     }
 }
 
-// Makes the distance of a far node that of a near one and the cost, if that is smaller: whether it is. That of drives.rt
-// differs in the width alone: a trait for the two widths would be longer than both.
+// Makes the distance of a far node that of a near one and the cost, if that is smaller: whether it is.
 fn shorten(distances: &mut [u32], near: usize, far: usize, cost: u32) -> bool
     requires { (near < length distances.old) × (far < length distances.old) }
     ensures { Lowered far near cost distances.old distances.new result }
 {
-    let sum = cost.saturating_add(distances[near]);
-    if distances[far] <= sum {
+    let sum = cost as u64 + distances[near] as u64;
+    if distances[far] as u64 <= sum {
         return false;
     }
-    distances[far] = sum;
+    distances[far] = sum as u32;
     true
 }
