@@ -1,9 +1,9 @@
 -- Which steps are tight, by the numbers that the code compares.
-use Prim.Native.Nat.{ℕ, ◌+◌, ◌*◌, ◌≤◌, ◌<◌}
+use Prim.Native.Nat.{ℕ, ◌+◌, ◌*◌, ◌<◌}
 use native.Mathlib.Omega.{arith}
 use native.Mathlib.Decide.{ℕ_discrete, dec_lt}
 use mathlib.Core.Path.{◌≡◌, refl, ◌∙◌}
-use mathlib.Core.Logic.{inl}
+use mathlib.Core.Logic.{inl, inr, ◌⊎◌, ⊎_elim}
 use mathlib.Core.List.{List}
 use borrow.Author.Tests.{eq-eqb, ne_eqb, le-leb, lt-leb}
 use Rattle.rules.specs.Network.{from, to, drive}
@@ -23,17 +23,19 @@ use Rattle.search.specs.Known.{Known, value_in}
 use Rattle.search.specs.declared.bus.Bus.{Bus}
 use Rattle.search.specs.Steps.{network_of, request_of, here, driving_step, Meets, Drives}
 
--- what a drive from v takes
-pub not_driven : (network : List ℕ) (weight v k : ℕ) → (from network k ≡ v → ⊥) → no_finish ≡ driving_step network weight v k
+-- What a drive from v takes, where there is one.
+no_drive : (network : List ℕ) (weight v k : ℕ)
+    → (driving_step network weight v k ≡ no_finish) ⊎ ((from network k ≡ v) × (drive network k < closed))
 unfolding driving_step
-not_driven network weight v k h = simp (ne_eqb _ _ h)
+no_drive network weight v k = elim (ℕ_discrete (from network k) v) [
+  | no away ↦ inl (simp (ne_eqb _ _ away))
+  | yes starts ↦ elim (dec_lt (drive network k) closed) [
+    | no shut ↦ inl (simp (eq-eqb _ _ starts, le-leb closed (drive network k) (omega arith)))
+    | yes opened ↦ inr (starts, opened)
+  ]
+]
 
-pub closed_drive : (network : List ℕ) (weight v k : ℕ) → from network k ≡ v → closed ≤ drive network k
-    → no_finish ≡ driving_step network weight v k
-unfolding driving_step
-closed_drive network weight v k e h = simp (eq-eqb _ _ e, le-leb _ _ h)
-
-pub open_drive : (network : List ℕ) (weight v k : ℕ) → from network k ≡ v → drive network k < closed
+open_drive : (network : List ℕ) (weight v k : ℕ) → from network k ≡ v → drive network k < closed
     → packed_step (weight * drive network k) ≡ driving_step network weight v k
 unfolding driving_step
 open_drive network weight v k e h = simp (eq-eqb _ _ e, lt-leb _ _ h)
@@ -85,19 +87,15 @@ module _ (bus : Bus) where
   driving_tight k (exists, e) =
       let network = network_of bus in
       let weight = bus_weight_of (request_of bus) in
-      elim (ℕ_discrete (from network k) bus.node) [
-        | no away ↦ absurd (omega (arith, bus.stands.finite, not_driven network weight bus.node k away))
-        | yes starts ↦ elim (dec_lt (drive network k) closed) [
-          | no shut ↦ absurd (omega (arith, bus.stands.finite, closed_drive network weight bus.node k starts (omega arith)))
-          | yes drivable ↦
-              (record {
-                cost = _;
-                leads =
-                    drives k (drive network k) refl (record { exists = exists; starts = starts; ends = refl; costs = refl; opened = drivable }) refl refl;
-                tight = e ∙ rw (← open_drive network weight bus.node k starts drivable);
-              })
-        ]
-      ]
+      ⊎_elim
+      (λ none. absurd (omega (arith, bus.stands.finite, none)))
+      (λ (starts, opened).
+      (record {
+        cost = _;
+        leads = drives k (drive network k) refl (record { exists = exists; starts = starts; ends = refl; costs = refl; opened = opened }) refl refl;
+        tight = e ∙ rw (← open_drive network weight bus.node k starts opened);
+      }))
+      (no_drive network weight bus.node k)
 
   -- a drive step that is tight is such a drive
   pub tight_drive : {k S x : ℕ} → TightStep bus (drive_step k) S x → Drives bus k

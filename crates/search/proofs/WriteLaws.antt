@@ -58,11 +58,15 @@ module _ {start : Bus} {before : List ℕ} (planning : Planning start before) wh
     writing_more {move} next =
         let job = start.tables.now.job.now in
         let left = room_left (omega (arith, next.lowest.tight.tight)) in
+        let lowest =
+        subst
+        (λ (t : Tables). NextStep t.job.now.network t.job.now.request (value_in t) bus.riders bus.node move.step move.bus.riders move.bus.node)
+        so.same next.lowest in
         record {
           short = rw length-set (omega (arith, left));
           reading =
               rw (add-one, take-suc-set after i move.step left)
-              (reading_next job.sound job.fits planning.known.filled so.reading (subst (λ (t : Tables). NextStep t.job.now.network t.job.now.request (value_in t) bus.riders bus.node move.step move.bus.riders move.bus.node) so.same next.lowest));
+              (reading_next job.sound job.fits planning.known.filled so.reading lowest);
           kept = kept_then (kept_later (omega arith) so.kept) (kept_set after i move.step (omega arith));
           same = next.same ∙ so.same;
         }
