@@ -1,5 +1,5 @@
 // The library for host programs at a desk: reading, walking, pricing, the search and writing, each with one number for
-// its answer. Below 2^63 it is the value; a refusal is 2^63 + 65,536 × place + number.
+// its answer, as C takes it. Below 2^63 it is the value; a refusal is 2^63 + 65,536 × place + number.
 #![tactic(auto)]
 
 mod writing;

@@ -29,7 +29,8 @@ const NUMBERS: usize = FIRST_STEP + MOST_STEPS;
 
 #[derive(Drop)]
 pub struct Answer {
-    // the refusal's number and its place, or 0 and the cost; and the number of steps
+    // the refusal's number and its place, or 0 and the cost; and the number of steps: places of what is printed, so 24 is
+    // the rules' number itself
     said: [u64; SAID],
     distances: [u32; DISTANCES],
     table: [u64; TABLE],
@@ -40,14 +41,12 @@ pub struct Answer {
 pub fn searched(town: &Town) -> Result<Answer, AllocError> {
     let mut network = [0; NETWORK];
     let mut request = [0; REQUEST];
-    let network_length = put_network(town, &mut network)?;
-    let request_length = put_request(town, &mut request);
     let mut distances = [u32::from(MARK); DISTANCES];
     let mut table = [u64::from(MARK); TABLE];
     let mut steps = [MARK; MOST_STEPS];
     let planned = search::search(
-        first(&network, network_length),
-        first(&request, request_length),
+        put_network(town, &mut network)?,
+        put_request(town, &mut request),
         &mut distances,
         &mut table,
         &mut steps,
@@ -58,11 +57,6 @@ pub fn searched(town: &Town) -> Result<Answer, AllocError> {
         table,
         steps,
     })
-}
-
-// The first bytes of a room, or all where there are fewer.
-fn first(room: &[u8], count: usize) -> &[u8] {
-    room.get(..count).unwrap_or(room)
 }
 
 fn said(planned: Result<rules::Plan, Refusal>) -> [u64; SAID] {

@@ -13,18 +13,20 @@ pub const NETWORK: usize = 105;
 
 pub const REQUEST: usize = 30;
 
-// Writes the town's network, and gives the record's length, or 0 where it is refused.
-pub fn put_network(town: &Town, room: &mut [u8; NETWORK]) -> Result<usize, AllocError> {
+// Writes the town's network, and lends the record, or nothing where it is refused.
+pub fn put_network<'a>(town: &Town, room: &'a mut [u8; NETWORK]) -> Result<&'a [u8], AllocError> {
     let mut links: ArrayVec<u16, LINK_NUMBERS> = ArrayVec::new();
     for link in &town.links {
         links.extend([link.from, link.to, link.drive, link.walk])?;
     }
-    Ok(write_network(usize::from(town.nodes), &links, room).unwrap_or(0))
+    let length = write_network(usize::from(town.nodes), &links, room).unwrap_or(0);
+    Ok(room.get(..length).unwrap_or(&[]))
 }
 
-// Writes the town's request, and gives the record's length, or 0 where it is refused.
-pub fn put_request(town: &Town, room: &mut [u8; REQUEST]) -> usize {
-    write_request(usize::from(town.nodes), request(town), room).unwrap_or(0)
+// Writes the town's request, and lends the record, or nothing where it is refused.
+pub fn put_request<'a>(town: &Town, room: &'a mut [u8; REQUEST]) -> &'a [u8] {
+    let length = write_request(usize::from(town.nodes), request(town), room).unwrap_or(0);
+    room.get(..length).unwrap_or(&[])
 }
 
 fn request(town: &Town) -> Request {

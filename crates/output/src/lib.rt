@@ -23,7 +23,7 @@ const DISTANCE_PLACES: usize = MOST_RIDERS * MOST_NODES;
 const TABLE_PLACES: usize = 2048;
 
 // Writes what the program prints for an input, and gives its length; or gives 0 and leaves the room as it was, if that has
-// fewer than TEXT_PLACES places.
+// fewer than TEXT_PLACES places. The promise is of this number, so it is no `Option`.
 pub fn write_text(input: &[u8], text: &mut [u8]) -> usize
     ensures { Printed input.now text.old text.new result }
 {

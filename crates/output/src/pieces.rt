@@ -14,7 +14,8 @@ use lines::Line;
 use lines::inner::{node_after, step_line};
 use rules::{Plan, Refusal};
 
-// Writes the plan with its steps, or the refusal.
+// Writes the plan with its steps, or the refusal. The records come as bytes, since what the search promised of them is said of bytes; text
+// and place stay two parameters, as in `writers`.
 pub fn put_answer(
     network: &[u8],
     request: &[u8],

@@ -75,7 +75,7 @@ impl<'a> Network<'a> {
         inner::to(self.bytes, k)
     }
 
-    // What driving link k costs, or `CLOSED` where it is closed to the bus.
+    // What driving link k costs, or `CLOSED` where it is closed to the bus: the record's own number, as its clause says.
     pub fn drive(&self, k: usize) -> u64
         requires { k < link_count self.now.bytes }
         ensures { Is (drive self.now.bytes k) 65536 result }

@@ -13,8 +13,5 @@ pub fn network_size(input: &[u8]) -> usize
         return input.len();
     }
     let stated = inner::number(input, 1, 4);
-    if input.len() < stated {
-        return input.len();
-    }
-    stated
+    stated.min(input.len())
 }

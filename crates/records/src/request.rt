@@ -63,7 +63,8 @@ pub fn request_value(request: &[u8]) -> Request
     }
 }
 
-// Refusals 11 to 17 (4.3), for a network of n nodes.
+// Refusals 11 to 17 (4.3), for a network of n nodes. What each list of checks may take for granted is a clause: no type has it before
+// all have passed.
 #[tactic(auto, using(rules::proofs::Order::in_order), unfolding(rules::specs::Request::request_checks))]
 pub fn own_verdict(request: &[u8], n: usize) -> Result<(), Refusal>
     ensures { result ≡ first_of (request_checks n request.now) }

@@ -142,6 +142,12 @@ module _ (checks : ℕ → List Check) (count : ℕ) where
               ∙ so.left;
         }
 
+    pub passed_until : (r : Refusal) → k < count → first_of (checks k) ≡ Err r → first_of (each checks count 0) ≡ Err r
+    passed_until r h e =
+        sym so.left
+        ∙ ap first_of (each_from checks count k h)
+        ∙ front_refused (checks k) (each checks (count - (k + 1)) (k + 1)) r e
+
     pub passed_all : count ≤ k → first_of (each checks count 0) ≡ Accepted
     unfolding each first_of
     passed_all h =

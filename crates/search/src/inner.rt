@@ -11,6 +11,7 @@ use rules::{Fault, Plan, Refusal, Request, STEP_RANGE};
 use table::inner::{Tables, fill_distances, fill_table};
 
 // Fills the distances and the table, and writes the right plan's steps: its cost and number of steps, or refusal 24.
+// The request is one value, handed over whole; the job is made here.
 pub fn plan(
     network: &Network,
     request: Request,

@@ -86,10 +86,10 @@ module _ {n : ℕ} {Arc : Arcs} where
 
 -- Once no link makes a sum smaller, what stands there is what an engine promises
 pub spreads : {n : ℕ} {Link : ℕ → Arcs} {cap : ℕ} {before after : List ℕ} → Inside n (Linked Link) → n ≤ length before
-    → ((u : ℕ) → get_or before u 0 ≤ cap) → Relaxing n (Linked Link) before after → ((k : ℕ) → RelaxedLink Link k after)
+    → ((u : ℕ) → u < n → get_or before u 0 ≤ cap) → Relaxing n (Linked Link) before after → ((k : ℕ) → RelaxedLink Link k after)
     → Spread cap n (Linked Link) before after
 spreads {before = before} {after} inside fits capped so relaxed =
     record {
-      least = fixpoint inside (relaxing_sums inside fits (λ u h. tentative before u (capped u)) so) (λ u v w h g a. relaxed a.0 u v w a.1);
+      least = fixpoint inside (relaxing_sums inside fits (λ u h. tentative before u (capped u h)) so) (λ u v w h g a. relaxed a.0 u v w a.1);
       kept = relaxing_kept so;
     }

@@ -27,8 +27,8 @@ module _ {P : ℕ → ℕ → ℕ → Type 0} {n rows R : ℕ} {before front bac
   pub rows_front : (i v : ℕ) → i < R → v < n → P i v (get_or front (i * n + v) 0)
   rows_front i v h g = rw (at_front back i v h g) at (turn.so.below i v h g)
 
-  pub row_fits : n ≤ length back
-  row_fits = omega (arith, turn.places, turn.starts, row_within n turn.row, turn.so.kept.size, length-append front back)
+  pub part_fits : n ≤ length back
+  part_fits = omega (arith, turn.places, turn.starts, row_within n turn.row, turn.so.kept.size, length-append front back)
 
   -- The row came.
   pub rows_more : (part : List ℕ) → length part ≡ n → ((v : ℕ) → v < n → P R v (get_or part v 0))
@@ -36,7 +36,7 @@ module _ {P : ℕ → ℕ → ℕ → Type 0} {n rows R : ℕ} {before front bac
   rows_more part long here =
       let after = front ++ (part ++ drop n back) in
       let kept : Kept (R * n + n) (front ++ back) after = record {
-        size = simp (length-append, length-drop) (omega (arith, long, row_fits));
+        size = simp (length-append, length-drop) (omega (arith, long, part_fits));
         later = rw (← turn.starts) (drop-append-add front _ n ∙ drop_at part _ n long ∙ sym (drop-append-add front back n));
       } in
       record {

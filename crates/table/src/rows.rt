@@ -28,7 +28,7 @@ pub fn fill_table(job: &Job, distances: &[u32], table: &mut [u64])
     }
 }
 
-// Fills row `riders`, from the rows below it.
+// Fills row `riders`, from the rows below it. How far the table is filled is a clause and no type, since each row changes it.
 fn fill_row(tables: &Tables, riders: u32, row: &mut [u64])
     requires { RowReady tables.now riders × (length row.old ≡ node_count tables.now.job.now.network) }
     ensures { RowFilled tables.now riders row.new }

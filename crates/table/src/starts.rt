@@ -11,7 +11,7 @@ use rules::NO_FINISH;
 
 impl<'a, 'b> Tables<'a, 'b> {
     // What row `riders` starts from at v: with no rider, 0 at the target alone; else the least that a meeting at v takes.
-    pub fn start_value(&self, riders: u32, v: usize) -> u64
+    pub(crate) fn start_value(&self, riders: u32, v: usize) -> u64
         requires { (v < node_count self.now.job.now.network) × RowReady self.now riders }
         ensures { Least no_finish (Ends self.now.job.now.network self.now.job.now.request riders v) result }
     {

@@ -12,7 +12,7 @@ use rules::checks::check;
 use rules::{FIRST_REFUSAL, Fault, LONGEST_ROUTE, Refusal};
 
 // Prices a route whose link numbers come as bytes, the high one first: gives the price, or FIRST_REFUSAL plus a refusal's
-// number.
+// number, as C takes it.
 pub fn tivelgor_tablet_price(network: &[u8], request: &[u8], route: &[u8]) -> u64
     ensures { Tablet network.now request.now route.now result }
 {

@@ -44,7 +44,7 @@ impl Kind {
     }
 }
 
-// What is handed over of a kind: the first bytes of a room, which is fixed memory, since the project has no heap.
+// What is handed over of a kind: the first bytes of a room of fixed memory. A size may lie beyond what is laid out, so it is no `ArrayVec`.
 #[derive(Drop)]
 pub struct Record {
     bytes: [u8; RECORD],

@@ -17,7 +17,7 @@ enum Token {
     Copies { size: u64, times: u64 },
 }
 
-// The numbers of a part, in fixed memory: the project has no heap.
+// The numbers of a part, in fixed memory. It copies parts of itself behind its end, for which an `ArrayVec` has no method.
 #[derive(Drop)]
 pub struct List {
     room: [u64; NUMBERS],

@@ -28,7 +28,8 @@ fn put_network(n: usize, links: &[u16], room: &mut [u8]) -> usize
     put_twos(links, room, end)
 }
 
-// Refusals 81 to 83, for a room of so many bytes.
+// Refusals 81 to 83, for a room of so many bytes. n and the list stay two parameters, as the entry has them: a struct of the two would
+// say no more.
 #[tactic(auto, using(rules::proofs::Order::in_order), unfolding(rules::specs::Checks::first_of))]
 fn network_verdict(n: usize, links: &[u16], room: usize) -> Result<(), Refusal>
     ensures { result ≡ first_of (network_write_checks n links.now room) }

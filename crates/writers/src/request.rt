@@ -55,7 +55,8 @@ fn put_riders(request: Request, room: &mut [u8], at: usize) -> usize
     end
 }
 
-// Refusals 81 to 83, for a room of so many bytes.
+// Refusals 81 to 83, for a room of so many bytes. n and the value stay two parameters, as the entry has them; the limit of the rider
+// count is a clause, since no type has it before the checks have passed.
 #[tactic(auto, using(rules::proofs::Order::in_order), unfolding(rules::specs::Checks::first_of))]
 fn request_verdict(n: usize, request: Request, room: usize) -> Result<(), Refusal>
     ensures { result ≡ first_of (request_write_checks n request room) }

@@ -18,6 +18,6 @@ returns g c =
     let it = g.L.Links in
     let laws = g.met.L.Links in
     let (same, relaxed) = c.round.ensures.quiet c.loop-test.false in
-    spreads {Link = it.arcs _} (laws.inside _) c.requires.room c.requires.capped
+    spreads {Link = it.arcs _} (laws.inside _) c.requires.room (λ u h. c.requires.capped u)
     (relaxing_then c.loop.invariant c.round.ensures.relaxing)
     (λ k u v w link. relaxed k (laws.exist _ k u v w link) u v w link)

@@ -8,7 +8,7 @@ use Rattle.rules.specs.Request.{rider_count_of}
 use Rattle.rules.specs.Rooms.{no_finish}
 use Rattle.least.specs.Least.{Least}
 use Rattle.finish.specs.Packed.{Packed}
-use Rattle.table.proofs.RowLaws.{Turn, rows_front, row_fits, rows_more}
+use Rattle.table.proofs.RowLaws.{Turn, rows_front, part_fits, rows_more}
 use Rattle.table.proofs.TableLaws.{filled_all}
 use Rattle.table.proofs.rows.fill_table.Goals as goal
 use Rattle.table.proofs.rows.fill_table.Goals.{After-split_at_mut-below}
@@ -30,7 +30,7 @@ turn c =
     }
 
 long : (c : After-split_at_mut-below) → length (take c.node_count-n.result c.split_at_mut-below.result.1.now) ≡ node_count c.args.job.now.network
-long c = rw (read-n c) (length-take-le _ c.split_at_mut-below.result.1.now (row_fits (turn c)))
+long c = rw (read-n c) (length-take-le _ c.split_at_mut-below.result.1.now (part_fits (turn c)))
 
 pub fill_row-requires : goal.fill_row-requires
 fill_row-requires c =
