@@ -11,6 +11,8 @@ use records::inner::{Job, Network};
 use rules::{Refusal, Request};
 
 // The price of a route with its meeting positions, or refusal 32 to 37. The request is one value, handed over whole; the job is made here.
+// Inlined, since a call would copy the request by memcpy, which the tablet's archive is not to need.
+#[inline(always)]
 pub fn price_route(
     network: &Network,
     request: Request,

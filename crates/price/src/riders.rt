@@ -29,7 +29,7 @@ pub fn meet_riders(drive: &Drive) -> Result<RoutePrice, Refusal>
     ensures { Prices Accepted drive.now.job.now.network drive.now.job.now.request drive.now.links.now result }
 {
     let job = drive.job;
-    let request = job.request;
+    let request = &job.request;
     let mut meetings = [0u16; MOST_RIDERS];
     let mut price = drive.cost();
     for j in 0..request.rider_count {

@@ -43,7 +43,8 @@ pub fn link(network: &[u8], k: usize) -> &[u8]
     &network[start..end]
 }
 
-// Refusals 1 to 6 (4.2).
+// Refusals 1 to 6 (4.2). A call, so that all entries read by the same loop.
+#[inline(never)]
 #[tactic(auto, using(rules::proofs::Order::in_order), unfolding(rules::specs::Network::network_verdict, rules::specs::Network::network_checks))]
 pub fn network_verdict(network: &[u8]) -> Result<(), Refusal>
     ensures { result ≡ network_verdict network.now }

@@ -14,7 +14,7 @@ use rules::CLOSED;
 use rules::inner::packed_step;
 
 // The links as a bus of that weight sees them.
-#[derive(Drop)]
+#[derive(Clone, Copy)]
 struct Drives<'a> {
     network: &'a Network<'a>,
     weight: u64,

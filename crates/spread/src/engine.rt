@@ -6,7 +6,7 @@ ghost use Rattle.least.specs.WalkTrips.{Linked};
 ghost use Rattle.spread.specs.Relaxing.{RelaxedLink, RelaxedBelow, Progress};
 
 // The links of a network in one use of them, and a place for each node's sum.
-pub trait Links {
+pub trait Links: Copy {
     type Place;
 
     // The sums in such places, and the cap, which stands for none.
@@ -46,15 +46,18 @@ pub fn spread<L: Links>(links: &L, places: &mut [L::Place])
     while round(links, places) {}
 }
 
-// One round over all links: whether one of them made a sum smaller.
+// One round over all links: whether one of them made a sum smaller. A call, and the links as its own value: inlined, the two loops become
+// one, which takes a third longer.
+#[inline(never)]
 fn round<L: Links>(links: &L, places: &mut [L::Place]) -> bool
     requires { L.node_count links.now ≤ length (L.sums places.old) }
     ensures { Progress (L.node_count links.now) (Linked (L.arcs links.now)) (RelaxedBelow (L.arcs links.now) (L.link_count links.now))
         (L.sums places.old) (L.sums places.new) result }
 {
+    let own = *links;
     let mut changed = false;
-    for k in 0..links.link_count() {
-        changed |= links.relax(k, places);
+    for k in 0..own.link_count() {
+        changed |= own.relax(k, places);
     }
     changed
 }

@@ -13,7 +13,7 @@ use records::inner::Network;
 use rules::CLOSED;
 
 // The links as walkers see them.
-#[derive(Drop)]
+#[derive(Clone, Copy)]
 struct Walks<'a> {
     network: &'a Network<'a>,
 }

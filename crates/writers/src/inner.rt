@@ -14,8 +14,8 @@ pub fn put_number(x: usize, size: usize, room: &mut [u8], at: usize) -> usize
 {
     let end = at + size;
     let mut left = x;
-    for i in (at..end).rev() {
-        room[i] = (left % 256) as u8;
+    for i in (0..size).rev() {
+        room[at + i] = (left % 256) as u8;
         left /= 256;
     }
     end
