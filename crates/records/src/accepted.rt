@@ -36,6 +36,14 @@ impl<'a> Network<'a> {
         Ok(Network { bytes })
     }
 
+    // The network of bytes that are known to be sound, without reading them.
+    pub fn known(bytes: &'a [u8]) -> Self
+        requires { SoundNetwork bytes.now }
+        ensures { result.bytes ≡ bytes.now }
+    {
+        Network { bytes }
+    }
+
     // The value of a request for it, or the reader's refusal.
     pub fn read_request(&self, request: &[u8]) -> Result<Request, Refusal>
         ensures verdict { verdict_of result ≡ first_of (request_checks (node_count self.now.bytes) request.now) }
