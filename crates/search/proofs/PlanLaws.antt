@@ -39,7 +39,7 @@ answer_24 {network} {q} sound fits walked table none =
 module _ {tables : Tables} {bus : Bus} (from : AtSource tables bus) {d₀ t₀ : List ℕ} (s₀ : List ℕ)
     (walked : Distances tables.job.now.network tables.job.now.request d₀ tables.distances.now)
     (table : Table tables.job.now.network tables.job.now.request t₀ tables.table.now) where
-  known : Known tables
+  pub known : Known tables
   known =
       let job = tables.job.now in
       record {

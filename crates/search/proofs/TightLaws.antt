@@ -35,7 +35,7 @@ no_drive network weight v k = elim (ℕ_discrete (from network k) v) [
   ]
 ]
 
-open_drive : (network : List ℕ) (weight v k : ℕ) → from network k ≡ v → drive network k < closed
+pub open_drive : (network : List ℕ) (weight v k : ℕ) → from network k ≡ v → drive network k < closed
     → packed_step (weight * drive network k) ≡ driving_step network weight v k
 unfolding driving_step
 open_drive network weight v k e h = simp (eq-eqb _ _ e, lt-leb _ _ h)

@@ -47,7 +47,7 @@ module _ {start : Bus} {before : List ℕ} (planning : Planning start before) wh
     stands_there : here bus ≡ value_in start.tables.now bus.riders bus.node
     stands_there = ap (λ (t : Tables). value_in t bus.riders bus.node) so.same
 
-    room_left : 0 < here bus → i < length after
+    pub room_left : 0 < here bus → i < length after
     room_left some =
         let job = start.tables.now.job.now in
         let more = reading_room job.sound job.fits planning.known.filled so.reading (rw stands_there at some) in

@@ -44,7 +44,7 @@ module _ {n : ℕ} {Arc : Arcs} where
   pub progress_none : {Settled : List ℕ → Type 0} {t : List ℕ} → Settled t → Progress n Arc Settled t t false
   progress_none s = record { relaxing = still refl; quiet = λ e. (refl, s); falls = λ h. clash (cc) }
 
-  progress_one : {Settled : List ℕ → Type 0} (t : List ℕ) (u v w : ℕ) → u < n → Arc u v w → w + get_or t v 0 < get_or t u 0
+  pub progress_one : {Settled : List ℕ → Type 0} (t : List ℕ) (u v w : ℕ) → u < n → Arc u v w → w + get_or t v 0 < get_or t u 0
       → Progress n Arc Settled t (set t u (w + get_or t v 0)) true
   progress_one t u v w h arc less =
       record { relaxing = lowered t u v w (still refl) h arc less refl; quiet = λ e. clash (cc); falls = λ g. lower_total t u _ less }
